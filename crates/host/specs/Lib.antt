@@ -1,0 +1,5 @@
+pub mod Refusals
+pub mod Parts
+pub mod Spans
+pub mod Rows
+pub mod Hosts
