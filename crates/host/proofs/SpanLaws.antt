@@ -19,11 +19,12 @@ use Rattle.std.specs.declared.result.Result.the-variants.{Ok, Err}
 use Rattle.std.specs.declared.option.Option.{Option}
 use Rattle.std.specs.declared.option.Option.the-variants.{None, Some}
 use Rattle.bits.specs.Bit.{bit, within}
+use Rattle.host.specs.Hosts.{No-shared-place, place-in}
 use Rattle.host.specs.Parts.{inside, part-refusal, size}
 use Rattle.host.specs.Refusals.{plain, refusal}
 use Rattle.host.specs.declared.reasons.Reason.the-variants.{PartOutside}
 use Rattle.host.specs.declared.reasons.Refusal.{Refusal}
-use Rattle.host.specs.Spans.{fits, placed, laid, span-at, lies, seen, width-of, start-of, shown, sound, before, All-sound, In-order}
+use Rattle.host.specs.Spans.{fits, placed, laid, span-at, lies, seen, width-of, start-of, width-at, shown, sound, before, All-sound, In-order}
 use Rattle.host.specs.declared.spans.Span.{Span}
 
 -- what laying takes from the list: a place for its head, the rest from there on
@@ -224,3 +225,22 @@ noted room ws spans n l h k =
     (λ (b : k < n). h k b ∙ sym (laid-take room 0 ws n k b))
     (λ (b : n ≤ k). getD-past spans k None (omega arith) ∙ sym (laid-past room 0 (take n ws) k (omega (arith, length-take n ws))))
     (cases-lt k n)
+
+shown-inside : (room : ℕ) (s : Span) (i : ℕ) → i < size (width-of (lies room (Some s))) → i < s .width
+shown-inside room s i h =
+    let P : Bool → Type 0 = λ b. i < size (width-of (cond b (Some s) None)) → i < s .width in
+    (elim (leb (s .start + s .width) room) as P [ true ↦ λ l. l | false ↦ λ l. absurd (omega arith) ]) h
+
+apart : (room : ℕ) (x y : Option Span) (i l : ℕ) → before x y ≡ true → i < size (width-of (lies room x)) → l < size (width-of (lies room y))
+    → start-of x + i < start-of y + l
+apart room None y i l o h m = absurd (omega arith)
+apart room (Some s) None i l o h m = absurd (omega arith)
+apart room (Some s) (Some t) i l o h m = omega (arith, leb-true (s .start + s .width) (t .start) o, shown-inside room s i h)
+
+-- two variables have no place in common
+pub places-apart : (room : ℕ) (spans : List (Option Span)) → In-order spans → No-shared-place room spans
+places-apart room spans o j k i l ne h m e =
+    ⊎-elim
+    (λ (a : j < k). omega (arith, apart room (span-at spans j) (span-at spans k) i l (o j k a) h m))
+    (λ (a : k ≤ j). omega (arith, apart room (span-at spans k) (span-at spans j) l i (o k j (omega arith)) m h))
+    (cases-lt j k)

@@ -1,9 +1,11 @@
 -- What a host answers about a variable, and when it refuses.
-use Prim.Native.Nat.{ℕ, _+_, _^_}
+use Prim.Native.Nat.{ℕ, _+_, _-_, _^_}
 use mathlib.Core.Bool.{Bool, cond, _&&_}
 use mathlib.Core.List.{List}
-use lib.Dec.{leb, ltb}
+use mathlib.Core.Path.{_≡_}
+use lib.Dec.{eqb, leb, ltb}
 use lib.ListN.{length, getD}
+use Rattle.bits.specs.Bit.{bit, within}
 use Rattle.host.specs.Refusals.{plain}
 use Rattle.host.specs.declared.reasons.Reason.the-variants.{NoSuchName, PartOutside}
 use Rattle.host.specs.declared.reasons.Refusal.{Refusal}
@@ -34,3 +36,20 @@ inside width offset count = leb 1 count && leb count 64 && leb (offset + count) 
 abbrev pub part-refusal : Option ℕ → ℕ → ℕ → Option Refusal
 part-refusal None offset count = Some (plain NoSuchName)
 part-refusal (Some width) offset count = cond (inside width offset count) None (Some (plain PartOutside))
+
+-- a number holds the first `count` bits that `source` gives, and zeros above them
+abbrev pub Holds : ℕ → ℕ → (ℕ → ℕ) → Type 0
+Holds v count source = (i : ℕ) → bit v i ≡ cond (ltb i count) (source i) 0
+
+-- a row after a write of the low bits of `value` to the `count` places from `at` on, if it was accepted: every other bit is as it was
+abbrev pub Changed : Bool → ℕ → ℕ → ℕ → (ℕ → ℕ) → (ℕ → ℕ) → Type 0
+Changed accepted at count value old new = (p : ℕ) → new p ≡ cond (accepted && within at count p) (bit value (p - at)) (old p)
+
+-- the bits of all variables after such a write to a part of the variable `name`
+abbrev pub Written : Bool → ℕ → ℕ → ℕ → ℕ → (ℕ → ℕ → ℕ) → (ℕ → ℕ → ℕ) → Type 0
+Written accepted name offset count value old new =
+    (k i : ℕ) → new k i ≡ cond (accepted && eqb k name && within offset count i) (bit value (i - offset)) (old k i)
+
+-- widths or numbers that stayed
+abbrev pub Same : (ℕ → Option ℕ) → (ℕ → Option ℕ) → Type 0
+Same old new = (k : ℕ) → new k ≡ old k

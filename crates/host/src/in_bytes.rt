@@ -1,10 +1,11 @@
 // A row of bits in lent packed bytes, from the highest bit of byte 0 on.
 ghost use Prim.Native.Nat.{ℕ, _+_, _-_, _*_, _<_, _≤_, min};
-ghost use Rattle.bits.specs.Bit.{bit, within};
+ghost use Rattle.bits.specs.Bit.{bit};
+ghost use Rattle.host.specs.Parts.{Changed};
 ghost use Rattle.host.specs.Rows.{byte-bit, byte-cell, byte-inner, bytes-room};
 ghost use denote.Ref.{now as cur};
 ghost use lib.ListN.{length};
-ghost use mathlib.Core.Bool.{cond};
+ghost use mathlib.Core.Bool.{true};
 ghost use mathlib.Core.Path.{_≡_};
 use crate::stores::Storage;
 
@@ -25,7 +26,7 @@ fn load(bytes: &[u8], from: usize) -> u64
 // Puts 64 bits into the eight bytes from `from` on; those past the last byte are left out.
 fn store(bytes: &mut [u8], from: usize, value: u64)
     requires from { ⌜ from < length (now bytes) ⌝ }
-    ensures stored { λ _. ⌜ ((p : ℕ) → byte-bit (now (bytes .exit)) p ≡ cond (within (8 * from) (min 64 (8 * (length (now (bytes .entry)) - from))) p) (bit value (p - 8 * from)) (byte-bit (now (bytes .entry)) p)) ⌝ }
+    ensures stored { λ _. ⌜ Changed true (8 * from) (min 64 (8 * (length (now (bytes .entry)) - from))) value (byte-bit (now (bytes .entry))) (byte-bit (now (bytes .exit))) ⌝ }
 {
     let raw = bits::mirrored(value);
     for j in 0..8 {
@@ -39,7 +40,7 @@ fn store(bytes: &mut [u8], from: usize, value: u64)
 fn splice(bytes: &mut [u8], at: usize, count: usize, value: u64)
     requires count { ⌜ 1 ≤ count ⌝ ∗ ⌜ count ≤ 64 ⌝ }
     requires inside { ⌜ at + count ≤ 8 * length (now bytes) ⌝ }
-    ensures stored { λ _. ⌜ ((p : ℕ) → byte-bit (now (bytes .exit)) p ≡ cond (within at count p) (bit value (p - at)) (byte-bit (now (bytes .entry)) p)) ⌝ }
+    ensures stored { λ _. ⌜ Changed true at count value (byte-bit (now (bytes .entry))) (byte-bit (now (bytes .exit))) ⌝ }
 {
     let from = at / 8;
     let shift = at % 8;

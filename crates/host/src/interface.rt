@@ -1,14 +1,11 @@
 // What a host is: its meaning, and the four calls that ask for it and change it.
-ghost use Prim.Native.Nat.{ℕ, _+_, _-_, _^_, _<_, _≤_};
-ghost use Rattle.bits.specs.Bit.{bit, within};
-ghost use Rattle.host.specs.Parts.{found, part-refusal, size};
+ghost use Prim.Native.Nat.{ℕ, _+_, _^_, _<_, _≤_};
+ghost use Rattle.host.specs.Parts.{Holds, Same, Written, found, part-refusal, size};
 ghost use Rattle.host.specs.Refusals.{refusal};
 ghost use Rattle.std.specs.Results.{isOk};
 ghost use Rattle.std.specs.Vec.{made};
 ghost use Rattle.std.specs.declared.option.Option.the-variants.{Some};
 ghost use Rattle.std.specs.declared.option.Option.{Option};
-ghost use lib.Dec.{eqb, ltb};
-ghost use mathlib.Core.Bool.{cond, _&&_};
 ghost use mathlib.Core.Path.{_≡_};
 use crate::reasons::Refusal;
 
@@ -43,12 +40,12 @@ pub trait Host {
     // such variable, else by 24 where the part is not 1 to 64 bits inside it.
     fn read(&self, name: usize, offset: usize, count: usize) -> Result<u64, Refusal>
         ensures refused { λ r. ⌜ refusal r ≡ part-refusal (widths (now (self .entry)) name) offset count ⌝ }
-        ensures bits { λ r. ⌜ made r (λ v. (i : ℕ) → bit v i ≡ cond (ltb i count) (bits (now (self .entry)) name (offset + i)) 0) ⌝ };
+        ensures bits { λ r. ⌜ made r (λ v. Holds v count (λ i. bits (now (self .entry)) name (offset + i))) ⌝ };
 
     // Sets these bits to the low ones of `value`, and no other; refused as `read` is, and then nothing changes.
     fn write(&mut self, name: usize, offset: usize, count: usize, value: u64) -> Result<(), Refusal>
         ensures refused { λ r. ⌜ refusal r ≡ part-refusal (widths (now (self .entry)) name) offset count ⌝ }
-        ensures bits { λ r. ⌜ ((k i : ℕ) → bits (now (self .exit)) k i ≡ cond (isOk r && eqb k name && within offset count i) (bit value (i - offset)) (bits (now (self .entry)) k i)) ⌝ }
-        ensures widths { λ _. ⌜ ((k : ℕ) → widths (now (self .exit)) k ≡ widths (now (self .entry)) k) ⌝ }
-        ensures numbers { λ _. ⌜ ((k : ℕ) → numbers (now (self .exit)) k ≡ numbers (now (self .entry)) k) ⌝ };
+        ensures bits { λ r. ⌜ Written (isOk r) name offset count value (bits (now (self .entry))) (bits (now (self .exit))) ⌝ }
+        ensures widths { λ _. ⌜ Same (widths (now (self .entry))) (widths (now (self .exit))) ⌝ }
+        ensures numbers { λ _. ⌜ Same (numbers (now (self .entry))) (numbers (now (self .exit))) ⌝ };
 }

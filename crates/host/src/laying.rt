@@ -1,16 +1,13 @@
 // A host whose variables lie end to end in a row of bits.
-ghost use Prim.Native.Nat.{ℕ, _+_, _-_};
-ghost use Rattle.bits.specs.Bit.{bit, within};
+ghost use Prim.Native.Nat.{ℕ};
 ghost use Rattle.host.specs.Hosts.{place-in, spans-of};
-ghost use Rattle.host.specs.Parts.{number-at, part-refusal};
+ghost use Rattle.host.specs.Parts.{Changed, Same, Written, number-at, part-refusal};
 ghost use Rattle.host.specs.Refusals.{refusal};
 ghost use Rattle.host.specs.Rows.{row-bit};
 ghost use Rattle.host.specs.Spans.{bit-at, laid, span-at, width-at};
 ghost use Rattle.std.specs.Of.Vec.{vec-items};
 ghost use Rattle.std.specs.Results.{isOk};
 ghost use Rattle.std.specs.Vec.{made};
-ghost use lib.Dec.{eqb};
-ghost use mathlib.Core.Bool.{cond, _&&_};
 ghost use mathlib.Core.Path.{_≡_};
 use crate::interface::Host;
 use crate::reasons::Reason;
@@ -92,10 +89,7 @@ pub impl<S: Storage> Host for Laid<S> as LaidHost {
         if name < self.numbers.len() {
             Ok(self.numbers[name])
         } else {
-            Err(Refusal {
-                reason: Reason::NoSuchName,
-                place: 0,
-            })
+            Err(Refusal::plain(Reason::NoSuchName))
         }
     }
 
@@ -107,10 +101,10 @@ pub impl<S: Storage> Host for Laid<S> as LaidHost {
     // The last two clauses are about the row itself: no bit of it changes outside the part.
     fn write(&mut self, name: usize, offset: usize, count: usize, value: u64) -> Result<(), Refusal>
         ensures refused { λ r. ⌜ refusal r ≡ part-refusal (width-at (S·Storage .room (now (self .entry) .store)) (spans-of (now (self .entry))) name) offset count ⌝ }
-        ensures bits { λ r. ⌜ ((k i : ℕ) → bit-at (S·Storage .room (now (self .exit) .store)) (spans-of (now (self .exit))) (row-bit (S·Storage .cell) (S·Storage .inner) (S·Storage .cells (now (self .exit) .store))) k i ≡ cond (isOk r && eqb k name && within offset count i) (bit value (i - offset)) (bit-at (S·Storage .room (now (self .entry) .store)) (spans-of (now (self .entry))) (row-bit (S·Storage .cell) (S·Storage .inner) (S·Storage .cells (now (self .entry) .store))) k i)) ⌝ }
-        ensures widths { λ _. ⌜ ((k : ℕ) → width-at (S·Storage .room (now (self .exit) .store)) (spans-of (now (self .exit))) k ≡ width-at (S·Storage .room (now (self .entry) .store)) (spans-of (now (self .entry))) k) ⌝ }
-        ensures numbers { λ _. ⌜ ((k : ℕ) → number-at (vec-items (now (self .exit) .numbers)) k ≡ number-at (vec-items (now (self .entry) .numbers)) k) ⌝ }
-        ensures stored { λ r. ⌜ ((p : ℕ) → row-bit (S·Storage .cell) (S·Storage .inner) (S·Storage .cells (now (self .exit) .store)) p ≡ cond (isOk r && within (place-in (spans-of (now (self .entry))) name offset) count p) (bit value (p - place-in (spans-of (now (self .entry))) name offset)) (row-bit (S·Storage .cell) (S·Storage .inner) (S·Storage .cells (now (self .entry) .store)) p)) ⌝ }
+        ensures bits { λ r. ⌜ Written (isOk r) name offset count value (bit-at (S·Storage .room (now (self .entry) .store)) (spans-of (now (self .entry))) (row-bit (S·Storage .cell) (S·Storage .inner) (S·Storage .cells (now (self .entry) .store)))) (bit-at (S·Storage .room (now (self .exit) .store)) (spans-of (now (self .exit))) (row-bit (S·Storage .cell) (S·Storage .inner) (S·Storage .cells (now (self .exit) .store)))) ⌝ }
+        ensures widths { λ _. ⌜ Same (width-at (S·Storage .room (now (self .entry) .store)) (spans-of (now (self .entry)))) (width-at (S·Storage .room (now (self .exit) .store)) (spans-of (now (self .exit)))) ⌝ }
+        ensures numbers { λ _. ⌜ Same (number-at (vec-items (now (self .entry) .numbers))) (number-at (vec-items (now (self .exit) .numbers))) ⌝ }
+        ensures stored { λ r. ⌜ Changed (isOk r) (place-in (spans-of (now (self .entry))) name offset) count value (row-bit (S·Storage .cell) (S·Storage .inner) (S·Storage .cells (now (self .entry) .store))) (row-bit (S·Storage .cell) (S·Storage .inner) (S·Storage .cells (now (self .exit) .store))) ⌝ }
         ensures places { λ _. ⌜ spans-of (now (self .exit)) ≡ spans-of (now (self .entry)) ⌝ }
     {
         let at = spans::part_there(self.table.get(name), self.store.size(), offset, count)?;

@@ -1,5 +1,5 @@
 // Why a call is refused, by number and place.
-ghost use Rattle.host.specs.Refusals.{number-of};
+ghost use Rattle.host.specs.Refusals.{number-of, plain};
 ghost use mathlib.Core.Path.{_≡_};
 
 // A reason for a refusal.
@@ -19,6 +19,13 @@ pub struct Refusal {
 }
 
 impl Refusal {
+    // A refusal whose place is 0.
+    pub fn plain(reason: Reason) -> Refusal
+        ensures answer { λ r. ⌜ r ≡ plain reason ⌝ }
+    {
+        Refusal { reason, place: 0 }
+    }
+
     // The number by which the reason is known.
     pub fn number(&self) -> u8
         ensures number { λ r. ⌜ r ≡ number-of (now (self .entry) .reason) ⌝ }

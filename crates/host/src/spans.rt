@@ -11,7 +11,7 @@ use crate::reasons::Refusal;
 
 // The place of a variable: where it starts, and how many bits it has.
 #[derive(Clone, Copy, PartialEq, Eq, Debug)]
-pub struct Span {
+pub(crate) struct Span {
     pub start: usize,
     pub width: usize,
 }
@@ -60,10 +60,7 @@ pub(crate) fn width_there(span: Option<Span>, room: usize) -> Result<usize, Refu
 {
     match within_row(span, room) {
         Some(s) => Ok(s.width),
-        None => Err(Refusal {
-            reason: Reason::NoSuchName,
-            place: 0,
-        }),
+        None => Err(Refusal::plain(Reason::NoSuchName)),
     }
 }
 
@@ -79,16 +76,10 @@ pub(crate) fn part_there(
     ensures place { λ r. ⌜ made r (λ at. (at ≡ start-of span + offset) × (at + count ≤ room) × (1 ≤ count) × (count ≤ 64)) ⌝ }
 {
     let Some(s) = within_row(span, room) else {
-        return Err(Refusal {
-            reason: Reason::NoSuchName,
-            place: 0,
-        });
+        return Err(Refusal::plain(Reason::NoSuchName));
     };
     if count < 1 || count > 64 || offset > s.width || count > s.width - offset {
-        return Err(Refusal {
-            reason: Reason::PartOutside,
-            place: 0,
-        });
+        return Err(Refusal::plain(Reason::PartOutside));
     }
     Ok(s.start + offset)
 }

@@ -1,9 +1,8 @@
 // Rows of bits, in which variables are laid end to end.
-ghost use Prim.Native.Nat.{ℕ, _+_, _-_, _≤_};
-ghost use Rattle.bits.specs.Bit.{bit, within};
+ghost use Prim.Native.Nat.{ℕ, _+_, _≤_};
+ghost use Rattle.host.specs.Parts.{Changed, Holds};
 ghost use Rattle.host.specs.Rows.{row-bit};
-ghost use lib.Dec.{ltb};
-ghost use mathlib.Core.Bool.{cond};
+ghost use mathlib.Core.Bool.{true};
 ghost use mathlib.Core.List.{List};
 ghost use mathlib.Core.Path.{_≡_};
 
@@ -28,12 +27,12 @@ pub trait Storage {
     fn get(&self, at: usize, count: usize) -> u64
         requires count { ⌜ 1 ≤ count ⌝ ∗ ⌜ count ≤ 64 ⌝ }
         requires inside { ⌜ at + count ≤ room (now self) ⌝ }
-        ensures bits { λ r. ⌜ ((i : ℕ) → bit r i ≡ cond (ltb i count) (row-bit cell inner (cells (now (self .entry))) (at + i)) 0) ⌝ };
+        ensures bits { λ r. ⌜ Holds r count (λ i. row-bit cell inner (cells (now (self .entry))) (at + i)) ⌝ };
 
     // Sets these bits to the low ones of `value`, and no other.
     fn put(&mut self, at: usize, count: usize, value: u64)
         requires count { ⌜ 1 ≤ count ⌝ ∗ ⌜ count ≤ 64 ⌝ }
         requires inside { ⌜ at + count ≤ room (now self) ⌝ }
         ensures room { λ _. ⌜ room (now (self .exit)) ≡ room (now (self .entry)) ⌝ }
-        ensures stored { λ _. ⌜ ((p : ℕ) → row-bit cell inner (cells (now (self .exit))) p ≡ cond (within at count p) (bit value (p - at)) (row-bit cell inner (cells (now (self .entry))) p)) ⌝ };
+        ensures stored { λ _. ⌜ Changed true at count value (row-bit cell inner (cells (now (self .entry)))) (row-bit cell inner (cells (now (self .exit)))) ⌝ };
 }

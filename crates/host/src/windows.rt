@@ -1,14 +1,11 @@
 // A host that shows one variable of another host as variables.
-ghost use Prim.Native.Nat.{ℕ, _+_, _-_};
-ghost use Rattle.bits.specs.Bit.{bit, within};
+ghost use Prim.Native.Nat.{ℕ};
 ghost use Rattle.host.specs.Hosts.{place-in};
-ghost use Rattle.host.specs.Parts.{part-refusal, size};
+ghost use Rattle.host.specs.Parts.{Same, Written, part-refusal, size};
 ghost use Rattle.host.specs.Refusals.{refusal};
 ghost use Rattle.host.specs.Spans.{bit-at, laid, span-at, width-at};
 ghost use Rattle.std.specs.Results.{isOk};
-ghost use lib.Dec.{eqb};
 ghost use lib.ListN.{take};
-ghost use mathlib.Core.Bool.{cond, _&&_};
 ghost use mathlib.Core.Path.{_≡_};
 use crate::interface::Host;
 use crate::reasons::Refusal;
@@ -107,11 +104,11 @@ pub impl<H: Host> Host for Window<H> as WindowHost {
     // The last three clauses are about the host below: no bit of it changes outside the part.
     fn write(&mut self, name: usize, offset: usize, count: usize, value: u64) -> Result<(), Refusal>
         ensures refused { λ r. ⌜ refusal r ≡ part-refusal (width-at (size (H·Host .widths (now (self .entry) .below) (now (self .entry) .name))) (now (self .entry) .table .spans) name) offset count ⌝ }
-        ensures bits { λ r. ⌜ ((k i : ℕ) → bit-at (size (H·Host .widths (now (self .exit) .below) (now (self .exit) .name))) (now (self .exit) .table .spans) (H·Host .bits (now (self .exit) .below) (now (self .exit) .name)) k i ≡ cond (isOk r && eqb k name && within offset count i) (bit value (i - offset)) (bit-at (size (H·Host .widths (now (self .entry) .below) (now (self .entry) .name))) (now (self .entry) .table .spans) (H·Host .bits (now (self .entry) .below) (now (self .entry) .name)) k i)) ⌝ }
-        ensures widths { λ _. ⌜ ((k : ℕ) → width-at (size (H·Host .widths (now (self .exit) .below) (now (self .exit) .name))) (now (self .exit) .table .spans) k ≡ width-at (size (H·Host .widths (now (self .entry) .below) (now (self .entry) .name))) (now (self .entry) .table .spans) k) ⌝ }
-        ensures numbers { λ _. ⌜ ((k : ℕ) → H·Host .numbers (now (self .exit) .below) k ≡ H·Host .numbers (now (self .entry) .below) k) ⌝ }
-        ensures below { λ r. ⌜ ((k i : ℕ) → H·Host .bits (now (self .exit) .below) k i ≡ cond (isOk r && eqb k (now (self .entry) .name) && within (place-in (now (self .entry) .table .spans) name offset) count i) (bit value (i - place-in (now (self .entry) .table .spans) name offset)) (H·Host .bits (now (self .entry) .below) k i)) ⌝ }
-        ensures below_widths { λ _. ⌜ ((k : ℕ) → H·Host .widths (now (self .exit) .below) k ≡ H·Host .widths (now (self .entry) .below) k) ⌝ }
+        ensures bits { λ r. ⌜ Written (isOk r) name offset count value (bit-at (size (H·Host .widths (now (self .entry) .below) (now (self .entry) .name))) (now (self .entry) .table .spans) (H·Host .bits (now (self .entry) .below) (now (self .entry) .name))) (bit-at (size (H·Host .widths (now (self .exit) .below) (now (self .exit) .name))) (now (self .exit) .table .spans) (H·Host .bits (now (self .exit) .below) (now (self .exit) .name))) ⌝ }
+        ensures widths { λ _. ⌜ Same (width-at (size (H·Host .widths (now (self .entry) .below) (now (self .entry) .name))) (now (self .entry) .table .spans)) (width-at (size (H·Host .widths (now (self .exit) .below) (now (self .exit) .name))) (now (self .exit) .table .spans)) ⌝ }
+        ensures numbers { λ _. ⌜ Same (H·Host .numbers (now (self .entry) .below)) (H·Host .numbers (now (self .exit) .below)) ⌝ }
+        ensures below { λ r. ⌜ Written (isOk r) (now (self .entry) .name) (place-in (now (self .entry) .table .spans) name offset) count value (H·Host .bits (now (self .entry) .below)) (H·Host .bits (now (self .exit) .below)) ⌝ }
+        ensures below_widths { λ _. ⌜ Same (H·Host .widths (now (self .entry) .below)) (H·Host .widths (now (self .exit) .below)) ⌝ }
         ensures places { λ _. ⌜ (now (self .exit) .name ≡ now (self .entry) .name) × (now (self .exit) .table .spans ≡ now (self .entry) .table .spans) ⌝ }
     {
         let at = spans::part_there(
