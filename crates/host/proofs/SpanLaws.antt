@@ -3,7 +3,7 @@ use mathlib.Core.Path.{_≡_, refl, sym, ap, ap₂, subst, _∙_}
 use mathlib.Core.Bool.{Bool, true, false, cond, _&&_}
 use mathlib.Core.List.{List, [], _∷_}
 use mathlib.Core.Logic.{_⊎_, inl, inr, ⊎-elim}
-use Prim.Native.Nat.{ℕ, zero, suc, _+_, _-_, _≤_, _<_, zero-le}
+use Prim.Native.Nat.{ℕ, zero, suc, _+_, _-_, _^_, _≤_, _<_, min}
 use native.Mathlib.Nat.{le-of-suc-le-suc}
 use native.Mathlib.Numerals.{add-one}
 use native.Mathlib.Omega.{arith}
@@ -20,11 +20,11 @@ use Rattle.std.specs.declared.option.Option.{Option}
 use Rattle.std.specs.declared.option.Option.the-variants.{None, Some}
 use Rattle.bits.specs.Bit.{bit, within}
 use Rattle.host.specs.Hosts.{No-shared-place, place-in}
-use Rattle.host.specs.Parts.{inside, part-refusal, size}
+use Rattle.host.specs.Parts.{inside, part-refusal, refused-part, size}
 use Rattle.host.specs.Refusals.{plain, refusal}
 use Rattle.host.specs.declared.reasons.Reason.the-variants.{PartOutside}
 use Rattle.host.specs.declared.reasons.Refusal.{Refusal}
-use Rattle.host.specs.Spans.{fits, placed, laid, span-at, lies, seen, width-of, start-of, width-at, shown, sound, before, All-sound, In-order}
+use Rattle.host.specs.Spans.{clipped, fits, placed, laid, span-at, lies, seen, width-of, start-of, width-at, shown, sound, before, All-sound, In-order}
 use Rattle.host.specs.declared.spans.Span.{Span}
 
 -- what laying takes from the list: a place for its head, the rest from there on
@@ -127,19 +127,68 @@ accepted : (b : Bool) (r : Refusal) → cond b None (Some r) ≡ None → b ≡ 
 accepted true r e = refl
 accepted false r e = let z : _≡_ {A = ℕ} 0 1 = cc in absurd (omega arith)
 
-pub in-part : (w offset count : ℕ) → part-refusal (Some w) offset count ≡ None → (1 ≤ count) × (count ≤ 64) × (offset + count ≤ w)
-in-part w offset count e =
-    let t : inside w offset count ≡ true = accepted (inside w offset count) (plain PartOutside) e in
+pub in-part : (w offset count : ℕ) → inside w offset count ≡ true → (1 ≤ count) × (count ≤ 64) × (offset + count ≤ w)
+in-part w offset count t =
     let p = and-parts (leb 1 count && leb count 64) (leb (offset + count) w) t in
     let q = and-parts (leb 1 count) (leb count 64) (p .0) in
     (leb-true 1 count (q .0), leb-true count 64 (q .1), leb-true (offset + count) w (p .1))
 
-pub part-accepted : (o : Option ℕ) (offset count : ℕ) → 1 ≤ count → count ≤ 64 → offset + count ≤ size o → part-refusal o offset count ≡ None
-part-accepted None offset count a b h = absurd (omega arith)
-part-accepted (Some w) offset count a b h =
-    cond-true (inside w offset count) None (Some (plain PartOutside))
-    (and-from (leb 1 count && leb count 64) (leb (offset + count) w)
-    (and-from (leb 1 count) (leb count 64) (le-leb 1 count a) (le-leb count 64 b)) (le-leb (offset + count) w h))
+pub is-part : (w offset count : ℕ) → 1 ≤ count → count ≤ 64 → offset + count ≤ w → inside w offset count ≡ true
+is-part w offset count a b h =
+    and-from (leb 1 count && leb count 64) (leb (offset + count) w)
+    (and-from (leb 1 count) (leb count 64) (le-leb 1 count a) (le-leb count 64 b)) (le-leb (offset + count) w h)
+
+pub part-inside : (o : Option ℕ) (offset count : ℕ) → part-refusal o offset count ≡ None → inside (size o) offset count ≡ true
+part-inside o offset count e = accepted (inside (size o) offset count) (refused-part o) e
+
+pub part-accepted : (o : Option ℕ) (offset count : ℕ) → inside (size o) offset count ≡ true → part-refusal o offset count ≡ None
+part-accepted o offset count t = cond-true (inside (size o) offset count) None (Some (refused-part o)) t
+
+pub part-refused : (o : Option ℕ) (offset count : ℕ) → (inside (size o) offset count ≡ true → ⊥) → part-refusal o offset count ≡ Some (refused-part o)
+part-refused o offset count n =
+    ⊎-elim
+    (λ (t : inside (size o) offset count ≡ true). absurd (n t))
+    (λ (t : inside (size o) offset count ≡ false). cond-false (inside (size o) offset count) None (Some (refused-part o)) t)
+    (cases-bool (inside (size o) offset count))
+
+no-part : (offset count : ℕ) → inside 0 offset count ≡ true → ⊥
+no-part offset count t = let q = in-part 0 offset count t in omega arith
+
+-- as far as it lies inside the row, a part is one of the place and ends inside the row
+pub inside-lies : (room : ℕ) (x : Option Span) (offset count : ℕ) → inside (size (width-of (lies room x))) offset count ≡ true
+    → (inside (size (width-of x)) offset count ≡ true) × (start-of x + offset + count ≤ room)
+inside-lies room None offset count t = absurd (no-part offset count t)
+inside-lies room (Some s) offset count t =
+    let P : Bool → Type 0 = λ b. inside (size (width-of (cond b (Some (clipped room s)) None))) offset count ≡ true
+    → (inside (s .width) offset count ≡ true) × (s .start + offset + count ≤ room) in
+    (elim (ltb (s .start) room) as P [
+      | true ↦ λ e. let q = in-part (min (s .width) (room - s .start)) offset count e in (is-part (s .width) offset count (q .0) (q .1) (omega arith), omega arith)
+      | false ↦ λ e. absurd (no-part offset count e)
+    ]) t
+
+pub lies-inside : (room : ℕ) (x : Option Span) (offset count : ℕ) → inside (size (width-of x)) offset count ≡ true → start-of x + offset + count ≤ room
+    → inside (size (width-of (lies room x))) offset count ≡ true
+lies-inside room None offset count t h = t
+lies-inside room (Some s) offset count t h =
+    let q = in-part (s .width) offset count t in
+    let l : s .start < room = omega arith in
+    ap (λ (o : Option Span). inside (size (width-of o)) offset count) (cond-true (ltb (s .start) room) (Some (clipped room s)) None (lt-ltb (s .start) room l))
+    ∙ is-part (min (s .width) (room - s .start)) offset count (q .0) (q .1) (omega arith)
+
+-- a variable of a host is not larger than the widest
+pub size-below : (o : Option ℕ) → ((w : ℕ) → o ≡ Some w → (1 ≤ w) × (w ≤ 65536)) → size o < 2 ^ 64
+size-below None h = omega arith
+size-below (Some w) h = let q = h w refl in omega arith
+
+-- what the table alone rules out is refused in every row
+pub refused-there : (room : ℕ) (x y : Option Span) (offset count : ℕ) → y ≡ x → room < 2 ^ 64
+    → (inside (size (width-of y)) offset count ≡ true → 2 ^ 64 ≤ start-of y + offset)
+    → Some (refused-part (width-of (lies room x))) ≡ part-refusal (width-of (lies room x)) offset count
+refused-there room x y offset count e h n =
+    sym (part-refused (width-of (lies room x)) offset count
+    (λ t. let q = inside-lies room x offset count t in
+    let m : 2 ^ 64 ≤ start-of x + offset = subst (λ (z : Option Span). 2 ^ 64 ≤ start-of z + offset) e (n (ap (λ (z : Option Span). inside (size (width-of z)) offset count) e ∙ q .0)) in
+    omega arith))
 
 module _ (offset count value : ℕ) (row row′ : ℕ → ℕ) where
   -- after a write at `offset`, in a variable that starts at `start`
@@ -161,38 +210,35 @@ module _ (offset count value : ℕ) (row row′ : ℕ → ℕ) where
   elsewhere s t i h o e = ap (λ (x : ℕ). cond (ltb i (t .width)) x 0) (e (t .start + i)) ∙ grind (arith, tells)
 
   -- the same of variables that may be lacking
-  pub shown-here : (room : ℕ) (x : Option Span) (i : ℕ) → part-refusal (width-of (lies room x)) offset count ≡ None → Written (start-of x)
+  pub shown-here : (room : ℕ) (x : Option Span) (i : ℕ) → inside (size (width-of (lies room x))) offset count ≡ true → Written (start-of x)
       → shown (lies room x) row′ i ≡ cond (within offset count i) (bit value (i - offset)) (shown (lies room x) row i)
-  shown-here room None i a e = let z : _≡_ {A = ℕ} 0 1 = cc in absurd (omega arith)
+  shown-here room None i a e = absurd (no-part offset count a)
   shown-here room (Some s) i a e =
-      let P : Bool → Type 0 = λ b. part-refusal (width-of (cond b (Some s) None)) offset count ≡ None
-      → shown (cond b (Some s) None) row′ i ≡ cond (within offset count i) (bit value (i - offset)) (shown (cond b (Some s) None) row i) in
-      (elim (leb (s .start + s .width) room) as P [
-        | true ↦ λ b. here s i (in-part (s .width) offset count b .2) e
-        | false ↦ λ b. let z : _≡_ {A = ℕ} 0 1 = cc in absurd (omega arith)
+      let P : Bool → Type 0 = λ b. inside (size (width-of (cond b (Some (clipped room s)) None))) offset count ≡ true
+      → shown (cond b (Some (clipped room s)) None) row′ i
+      ≡ cond (within offset count i) (bit value (i - offset)) (shown (cond b (Some (clipped room s)) None) row i) in
+      (elim (ltb (s .start) room) as P [
+        | true ↦ λ b. here (clipped room s) i (in-part (min (s .width) (room - s .start)) offset count b .2) e
+        | false ↦ λ b. absurd (no-part offset count b)
       ]) a
 
-  in-lies : (room : ℕ) (s : Span) → part-refusal (width-of (lies room (Some s))) offset count ≡ None → offset + count ≤ s .width
-  in-lies room s a =
-      let P : Bool → Type 0 = λ b. part-refusal (width-of (cond b (Some s) None)) offset count ≡ None → offset + count ≤ s .width in
-      (elim (leb (s .start + s .width) room) as P
-      [ true ↦ λ b. in-part (s .width) offset count b .2 | false ↦ λ b. let z : _≡_ {A = ℕ} 0 1 = cc in absurd (omega arith) ]) a
-
   pub shown-elsewhere : (room : ℕ) (x y : Option Span) (i : ℕ) → (before x y ≡ true) ⊎ (before y x ≡ true)
-      → part-refusal (width-of (lies room x)) offset count ≡ None → Written (start-of x) → shown (lies room y) row′ i ≡ shown (lies room y) row i
-  shown-elsewhere room None y i o a e = let z : _≡_ {A = ℕ} 0 1 = cc in absurd (omega arith)
+      → inside (size (width-of (lies room x))) offset count ≡ true → Written (start-of x) → shown (lies room y) row′ i ≡ shown (lies room y) row i
+  shown-elsewhere room None y i o a e = absurd (no-part offset count a)
   shown-elsewhere room (Some s) None i o a e = refl
   shown-elsewhere room (Some s) (Some t) i o a e =
-      let P : Bool → Type 0 = λ b. shown (cond b (Some t) None) row′ i ≡ shown (cond b (Some t) None) row i in
-      elim (leb (t .start + t .width) room) as P [
-        | true ↦ elsewhere s t i (in-lies room s a)
-            (⊎-elim (λ l. inl (leb-true (s .start + s .width) (t .start) l)) (λ l. inr (leb-true (t .start + t .width) (s .start) l)) o) e
+      let h : offset + count ≤ s .width = in-part (s .width) offset count (inside-lies room (Some s) offset count a .0) .2 in
+      let P : Bool → Type 0 = λ b. shown (cond b (Some (clipped room t)) None) row′ i ≡ shown (cond b (Some (clipped room t)) None) row i in
+      elim (ltb (t .start) room) as P [
+        | true ↦ elsewhere s (clipped room t) i h
+            (⊎-elim (λ l. inl (leb-true (s .start + s .width) (t .start) l))
+            (λ l. inr (let m : t .start + t .width ≤ s .start = leb-true (t .start + t .width) (s .start) l in omega arith)) o) e
         | false ↦ refl
       ]
 
 -- a write shows in the part that was written, and in no other bit of any variable
 pub write-shows : (spans : List (Option Span)) (room offset count value name : ℕ) (row row′ : ℕ → ℕ) → In-order spans
-    → part-refusal (width-of (seen room spans name)) offset count ≡ None → Written offset count value row row′ (start-of (span-at spans name))
+    → inside (size (width-at room spans name)) offset count ≡ true → Written offset count value row row′ (start-of (span-at spans name))
     → (k i : ℕ) → shown (seen room spans k) row′ i ≡ cond (eqb k name && within offset count i) (bit value (i - offset)) (shown (seen room spans k) row i)
 write-shows spans room offset count value name row row′ o a e k i =
     ⊎-elim
@@ -228,8 +274,8 @@ noted room ws spans n l h k =
 
 shown-inside : (room : ℕ) (s : Span) (i : ℕ) → i < size (width-of (lies room (Some s))) → i < s .width
 shown-inside room s i h =
-    let P : Bool → Type 0 = λ b. i < size (width-of (cond b (Some s) None)) → i < s .width in
-    (elim (leb (s .start + s .width) room) as P [ true ↦ λ l. l | false ↦ λ l. absurd (omega arith) ]) h
+    let P : Bool → Type 0 = λ b. i < size (width-of (cond b (Some (clipped room s)) None)) → i < s .width in
+    (elim (ltb (s .start) room) as P [ true ↦ λ (l : i < min (s .width) (room - s .start)). omega arith | false ↦ λ (l : i < 0). absurd (omega arith) ]) h
 
 apart : (room : ℕ) (x y : Option Span) (i l : ℕ) → before x y ≡ true → i < size (width-of (lies room x)) → l < size (width-of (lies room y))
     → start-of x + i < start-of y + l

@@ -32,10 +32,14 @@ number-at numbers k = cond (ltb k (length numbers) && ltb (getD numbers k 0) (2 
 abbrev pub inside : ℕ → ℕ → ℕ → Bool
 inside width offset count = leb 1 count && leb count 64 && leb (offset + count) width
 
--- how a read or a write of a part is refused, if it is: first for want of the variable, then for the part
+-- the refusal where a part is not to be had: for want of the variable, or for the part
+abbrev pub refused-part : Option ℕ → Refusal
+refused-part None = plain NoSuchName
+refused-part (Some width) = plain PartOutside
+
+-- how a read or a write of a part is refused, if it is
 abbrev pub part-refusal : Option ℕ → ℕ → ℕ → Option Refusal
-part-refusal None offset count = Some (plain NoSuchName)
-part-refusal (Some width) offset count = cond (inside width offset count) None (Some (plain PartOutside))
+part-refusal variable offset count = cond (inside (size variable) offset count) None (Some (refused-part variable))
 
 -- a number holds the first `count` bits that `source` gives, and zeros above them
 abbrev pub Holds : ℕ → ℕ → (ℕ → ℕ) → Type 0

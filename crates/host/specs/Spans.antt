@@ -1,5 +1,5 @@
 -- Variables laid end to end in a row of bits.
-use Prim.Native.Nat.{ℕ, _+_, _<_}
+use Prim.Native.Nat.{ℕ, _+_, _-_, _<_, min}
 use mathlib.Core.Bool.{Bool, true, cond, _&&_}
 use mathlib.Core.Path.{_≡_}
 use mathlib.Core.List.{List, [], _∷_}
@@ -26,12 +26,16 @@ laid room at (w ∷ ws) = placed room at w ∷ laid room (at + cond (fits room a
 abbrev pub span-at : List (Option Span) → ℕ → Option Span
 span-at spans k = getD spans k None
 
--- a place that lies inside a row of `room` bits
+-- what of a place that starts inside a row of `room` bits lies there
+abbrev pub clipped : ℕ → Span → Span
+clipped room s = record { start = s .start; width = min (s .width) (room - s .start) }
+
+-- what of a place lies inside a row of `room` bits
 abbrev pub lies : ℕ → Option Span → Option Span
 lies room None = None
-lies room (Some s) = cond (leb (s .start + s .width) room) (Some s) None
+lies room (Some s) = cond (ltb (s .start) room) (Some (clipped room s)) None
 
--- the place of variable k, where it lies inside the row
+-- the place of variable k, as far as it lies inside the row
 abbrev pub seen : ℕ → List (Option Span) → ℕ → Option Span
 seen room spans k = lies room (span-at spans k)
 

@@ -1,10 +1,12 @@
 // Places of variables in a row of bits, and parts of them.
-ghost use Prim.Native.Nat.{ℕ, _+_, _≤_, _<_};
-ghost use Rattle.host.specs.Parts.{found, part-refusal};
-ghost use Rattle.host.specs.Refusals.{refusal};
+ghost use Prim.Native.Nat.{ℕ, _+_, _^_, _≤_, _<_};
+ghost use Rattle.host.specs.Parts.{found, inside, part-refusal, refused-part, size};
 ghost use Rattle.host.specs.Spans.{laid, lies, placed, span-at, start-of, width-of};
+ghost use Rattle.host.specs.Refusals.{refusal};
+ghost use Rattle.std.specs.Options.{Cases as BySome};
 ghost use Rattle.std.specs.Vec.{made};
 ghost use lib.ListN.{length};
+ghost use mathlib.Core.Bool.{true};
 ghost use mathlib.Core.Path.{_≡_};
 use crate::reasons::Reason;
 use crate::reasons::Refusal;
@@ -44,12 +46,15 @@ pub(crate) fn lay(room: usize, widths: &[usize], spans: &mut [Option<Span>])
     }
 }
 
-// The place, where it lies inside a row of `room` bits.
+// What of a place lies inside a row of `room` bits.
 fn within_row(span: Option<Span>, room: usize) -> Option<Span>
     ensures answer { λ r. ⌜ r ≡ lies room span ⌝ }
 {
     match span {
-        Some(s) if s.start <= room && s.width <= room - s.start => Some(s),
+        Some(s) if s.start < room => Some(Span {
+            start: s.start,
+            width: s.width.min(room - s.start),
+        }),
         _ => None,
     }
 }
@@ -64,8 +69,30 @@ pub(crate) fn width_there(span: Option<Span>, room: usize) -> Result<usize, Refu
     }
 }
 
-// Where a part of the variable there begins in the row; refused by 23 where there is no variable, else by 24
-// where the part is not 1 to 64 bits inside it.
+// How a part of the variable there is refused that is not to be had: by 23 where there is no variable, else by 24.
+pub(crate) fn refusal_there(span: Option<Span>, room: usize) -> Refusal
+    ensures answer { λ r. ⌜ r ≡ refused-part (width-of (lies room span)) ⌝ }
+{
+    match within_row(span, room) {
+        Some(_) => Refusal::plain(Reason::PartOutside),
+        None => Refusal::plain(Reason::NoSuchName),
+    }
+}
+
+// Where a part of the variable begins in its row, if it is 1 to 64 bits inside the variable, however much of
+// that lies inside the row.
+pub(crate) fn part_of(span: Option<Span>, offset: usize, count: usize) -> Option<usize>
+    ensures place { λ r. ⌜ BySome r (inside (size (width-of span)) offset count ≡ true → 2 ^ 64 ≤ start-of span + offset) (λ at. (at ≡ start-of span + offset) × (inside (size (width-of span)) offset count ≡ true)) ⌝ }
+{
+    let s = span?;
+    if count < 1 || count > 64 || offset > s.width || count > s.width - offset {
+        return None;
+    }
+    s.start.checked_add(offset)
+}
+
+// Where a part of the variable there begins in the row; refused by 23 where there is no variable, else by 24 where
+// the part is not 1 to 64 bits inside it.
 pub(crate) fn part_there(
     span: Option<Span>,
     room: usize,
@@ -75,11 +102,8 @@ pub(crate) fn part_there(
     ensures refused { λ r. ⌜ refusal r ≡ part-refusal (width-of (lies room span)) offset count ⌝ }
     ensures place { λ r. ⌜ made r (λ at. (at ≡ start-of span + offset) × (at + count ≤ room) × (1 ≤ count) × (count ≤ 64)) ⌝ }
 {
-    let Some(s) = within_row(span, room) else {
-        return Err(Refusal::plain(Reason::NoSuchName));
-    };
-    if count < 1 || count > 64 || offset > s.width || count > s.width - offset {
-        return Err(Refusal::plain(Reason::PartOutside));
+    match part_of(span, offset, count) {
+        Some(at) if at <= room && count <= room - at => Ok(at),
+        _ => Err(refusal_there(span, room)),
     }
-    Ok(s.start + offset)
 }

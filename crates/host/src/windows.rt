@@ -1,7 +1,7 @@
 // A host that shows one variable of another host as variables.
 ghost use Prim.Native.Nat.{ℕ};
 ghost use Rattle.host.specs.Hosts.{place-in};
-ghost use Rattle.host.specs.Parts.{Same, Written, part-refusal, size};
+ghost use Rattle.host.specs.Parts.{Same, Written, part-refusal, refused-part, size};
 ghost use Rattle.host.specs.Refusals.{refusal};
 ghost use Rattle.host.specs.Spans.{bit-at, laid, span-at, width-at};
 ghost use Rattle.std.specs.Results.{isOk};
@@ -62,6 +62,13 @@ impl<H: Host> Window<H> {
         Window { below, name, table }
     }
 
+    // How a part of a variable is refused that is not to be had.
+    fn refusal(&self, name: usize) -> Refusal
+        ensures answer { λ r. ⌜ r ≡ refused-part (width-at (size (H·Host .widths (now (self .entry) .below) (now (self .entry) .name))) (now (self .entry) .table .spans) name) ⌝ }
+    {
+        spans::refusal_there(self.table.get(name), room_of(&self.below, self.name))
+    }
+
     // Gives the host below back.
     pub fn into_below(self) -> H
         ensures below { λ r. ⌜ r ≡ self .below ⌝ }
@@ -75,7 +82,8 @@ impl<H: Host> Window<H> {
     }
 }
 
-// Numbers come from below. Each call asks the host below for a width and makes one call of it.
+// Numbers come from below. An accepted read or write makes one call of the host below; only a refused one asks
+// it for a width too.
 pub impl<H: Host> Host for Window<H> as WindowHost {
     ghost widths = { λ w k. width-at (size (H·Host .widths (w .below) (w .name))) (w .table .spans) k };
 
@@ -92,13 +100,13 @@ pub impl<H: Host> Host for Window<H> as WindowHost {
     }
 
     fn read(&self, name: usize, offset: usize, count: usize) -> Result<u64, Refusal> {
-        let at = spans::part_there(
-            self.table.get(name),
-            room_of(&self.below, self.name),
-            offset,
-            count,
-        )?;
-        self.below.read(self.name, at, count)
+        let Some(at) = spans::part_of(self.table.get(name), offset, count) else {
+            return Err(self.refusal(name));
+        };
+        match self.below.read(self.name, at, count) {
+            Ok(part) => Ok(part),
+            Err(_) => Err(self.refusal(name)),
+        }
     }
 
     // The last three clauses are about the host below: no bit of it changes outside the part.
@@ -111,12 +119,12 @@ pub impl<H: Host> Host for Window<H> as WindowHost {
         ensures below_widths { λ _. ⌜ Same (H·Host .widths (now (self .entry) .below)) (H·Host .widths (now (self .exit) .below)) ⌝ }
         ensures places { λ _. ⌜ (now (self .exit) .name ≡ now (self .entry) .name) × (now (self .exit) .table .spans ≡ now (self .entry) .table .spans) ⌝ }
     {
-        let at = spans::part_there(
-            self.table.get(name),
-            room_of(&self.below, self.name),
-            offset,
-            count,
-        )?;
-        self.below.write(self.name, at, count, value)
+        let Some(at) = spans::part_of(self.table.get(name), offset, count) else {
+            return Err(self.refusal(name));
+        };
+        match self.below.write(self.name, at, count, value) {
+            Ok(()) => Ok(()),
+            Err(_) => Err(self.refusal(name)),
+        }
     }
 }

@@ -11,7 +11,7 @@ use Rattle.host.specs.Parts.{part-refusal}
 use Rattle.host.specs.Rows.{row-bit}
 use Rattle.host.specs.Spans.{bit-at, lies, span-at, start-of, width-at, width-of}
 use Rattle.host.specs.declared.spans.Span.{Span}
-use Rattle.host.proofs.SpanLaws.{write-shows}
+use Rattle.host.proofs.SpanLaws.{part-inside, write-shows}
 use Rattle.host.proofs.laying.LaidHost.write.Needs as need
 
 pub returns : need.returns
@@ -36,7 +36,7 @@ returns g c =
       refused = accepted;
       bits = λ k i.
           ap (λ (x : ℕ). bit-at x spans row′ k i) (c .put .ensures .room)
-          ∙ write-shows spans room offset count value name row row′ (c .args .self .now .table .ordered) (sym accepted) stored k i;
+          ∙ write-shows spans room offset count value name row row′ (c .args .self .now .table .ordered) (part-inside (width-at room spans name) offset count (sym accepted)) stored k i;
       widths = λ k. ap (λ (x : ℕ). width-at x spans k) (c .put .ensures .room);
       numbers = λ k. refl;
       stored = stored;
