@@ -13,7 +13,7 @@
 //
 // Every call takes any input. Places are worked out once, when a host is made: a call then costs the same for
 // the first name and the last, and touches at most two words or nine bytes. A window adds one look into its own
-// table and one question for a width to each call of the host below.
+// table to a read or a write of the host below.
 mod in_bytes;
 mod in_words;
 mod interface;

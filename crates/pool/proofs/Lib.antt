@@ -1,0 +1,13 @@
+pub mod Changes
+pub mod Entries
+pub mod Facts
+pub mod Firsts
+pub mod InUse
+pub mod Insertion
+pub mod Marked
+pub mod Pasted
+pub mod Pushed
+pub mod Slots
+pub mod Stays
+pub mod Stretches
+pub mod WordOrder
