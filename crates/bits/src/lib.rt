@@ -1,4 +1,4 @@
-// Bits of 64-bit words: taking a part out, putting one in, and turning each byte round.
+//! Bits of 64-bit words: taking a part out, putting one in, and turning each byte round.
 ghost use Prim.Native.Nat.{ℕ, _+_, _-_, _<_, _≤_};
 ghost use Rattle.bits.specs.Bit.{bit, lower, mirror, neighbour, pair-bit, within};
 ghost use lib.Dec.{ltb};
@@ -20,7 +20,7 @@ fn joined(low: u64, high: u64) -> u128
     (high as u128) << 64 | low as u128
 }
 
-// The `count` bits from `shift` on of the two words, with zeros above them.
+/// The `count` bits from `shift` on of the two words, with zeros above them.
 pub fn part(low: u64, high: u64, shift: usize, count: usize) -> u64
     requires shift { ⌜ shift < 64 ⌝ }
     requires count { ⌜ 1 ≤ count ⌝ ∗ ⌜ count ≤ 64 ⌝ }
@@ -29,7 +29,7 @@ pub fn part(low: u64, high: u64, shift: usize, count: usize) -> u64
     ((joined(low, high) >> shift) & ones(count) as u128) as u64
 }
 
-// The two words with the low `count` bits of `value` in place of those from `shift` on.
+/// The two words with the low `count` bits of `value` in place of those from `shift` on.
 pub fn spliced(low: u64, high: u64, shift: usize, count: usize, value: u64) -> (u64, u64)
     requires shift { ⌜ shift < 64 ⌝ }
     requires count { ⌜ 1 ≤ count ⌝ ∗ ⌜ count ≤ 64 ⌝ }
@@ -50,7 +50,7 @@ fn swapped(x: u64, by: usize, mask: u64) -> u64
     (x >> by & mask) | (x & mask) << by
 }
 
-// Each byte's bits the other way round.
+/// Each byte's bits the other way round.
 pub fn mirrored(x: u64) -> u64
     ensures bits { λ r. ⌜ ((i : ℕ) → i < 64 → bit r i ≡ bit x (mirror i)) ⌝ }
 {

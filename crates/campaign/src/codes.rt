@@ -20,7 +20,7 @@ fn value(digit: u8) -> Option<u8> {
     }
 }
 
-// The bytes of a code in groups.
+/// The bytes of a code in groups.
 pub fn written(heap: Global, bytes: &[u8]) -> Result<String, AllocError> {
     let mut text = String::new(heap);
     for (i, byte) in bytes.iter().enumerate() {
@@ -33,7 +33,7 @@ pub fn written(heap: Global, bytes: &[u8]) -> Result<String, AllocError> {
     Ok(text)
 }
 
-// The bytes of a code that is typed in: digits in pairs, whatever stands between them.
+/// The bytes of a code that is typed in: digits in pairs, whatever stands between them.
 pub fn typed(heap: Global, text: &str) -> Result<Vec<u8>, Refused<u8>> {
     let mut bytes = Vec::new(heap);
     let mut high: Option<u8> = None;

@@ -3,13 +3,13 @@ ghost use Rattle.campaign.specs.Copying.{name-of};
 ghost use mathlib.Core.Path.{_≡_};
 use std::fmt;
 
-// Bits of a card's number: cards are numbered 1 to 63.
+/// Bits of a card's number: cards are numbered 1 to 63.
 pub const CARD: usize = 6;
 
-// The widths of the fields: a chapter, six flags, twelve cards of the deck, hands of four, five and three cards.
+/// The widths of the fields: a chapter, six flags, twelve cards of the deck, hands of four, five and three cards.
 pub const WIDTHS: [usize; 6] = [5, 6, 72, 24, 30, 18];
 
-// What a flag says where it is set, from bit 0 on.
+/// What a flag says where it is set, from bit 0 on.
 pub const FLAGS: [&str; 6] = [
     "the bridge is burnt",
     "the ferryman is paid",
@@ -19,7 +19,7 @@ pub const FLAGS: [&str; 6] = [
     "the map is found",
 ];
 
-// A field. Those up to the deck are always played; then comes a hand for each seat.
+/// A field. Those up to the deck are always played; then comes a hand for each seat.
 #[derive(Clone, Copy, PartialEq, Eq)]
 pub enum Field {
     Chapter,
@@ -31,7 +31,7 @@ pub enum Field {
 }
 
 impl Field {
-    // Its name number, on the table and in a code.
+    /// Its name number, on the table and in a code.
     pub fn name(self) -> usize
         ensures name { λ r. ⌜ r ≡ name-of self ⌝ }
     {
@@ -61,7 +61,7 @@ pub impl fmt::Display for Field as FieldDisplay {
     }
 }
 
-// The fields that are played with so many seats; a fourth seat and more have no hands.
+/// The fields that are played with so many seats; a fourth seat and more have no hands.
 pub fn played(seats: u32) -> &'static [Field] {
     match seats {
         0 => &[],

@@ -1,4 +1,4 @@
-// The demonstration: an evening of a cooperative game is packed into a code, and dealt again from it.
+//! The demonstration: an evening of a cooperative game is packed into a code, and dealt again from it.
 mod codes;
 mod evening;
 mod faults;

@@ -9,30 +9,27 @@ use host::Host;
 use host::Reason;
 use host::Refusal;
 
-// A field that could not be carried over, and why.
+/// A field that could not be carried over, and why.
 #[derive(Clone, Copy)]
 pub struct Stopped {
     pub field: Field,
     pub refusal: Refusal,
 }
 
-// The width of a variable that both hosts have; refused by 23 where one lacks it, and by 24 where the second
-// has less room for it than the first.
+/// The width of a variable that both hosts have; refused by 23 where one lacks it, and by 24 where the second
+/// has less room for it than the first.
 pub fn shared_width<S: Host, T: Host>(from: &S, to: &T, name: usize) -> Result<usize, Refusal>
     ensures answer { λ r. ⌜ r ≡ shared (S·Host .widths (now (from .entry)) name) (T·Host .widths (now (to .entry)) name) ⌝ }
 {
     let width = from.width(name)?;
     let room = to.width(name)?;
     if room < width {
-        return Err(Refusal {
-            reason: Reason::PartOutside,
-            place: 0,
-        });
+        return Err(Refusal::plain(Reason::PartOutside));
     }
     Ok(width)
 }
 
-// Copies the bits of a variable, 64 at a time. Where it is refused, nothing has changed.
+/// Copies the bits of a variable, 64 at a time. Where it is refused, nothing has changed.
 pub fn copy_field<S: Host, T: Host>(from: &S, to: &mut T, name: usize) -> Result<(), Refusal>
     ensures refused { λ r. ⌜ refusal r ≡ refusal (shared (S·Host .widths (now (from .entry)) name) (T·Host .widths (now (to .entry)) name)) ⌝ }
     ensures bits { λ r. ⌜ Copied (isOk r) name (size (S·Host .widths (now (from .entry)) name)) (S·Host .bits (now (from .entry)) name) (T·Host .bits (now (to .entry))) (T·Host .bits (now (to .exit))) ⌝ }
@@ -64,7 +61,7 @@ fn ask<S: Host, T: Host>(from: &S, to: &T, fields: &[Field]) -> Result<(), Stopp
     Ok(())
 }
 
-// Carries all these fields over, or none: the first that lacks its place stops it before a bit has changed.
+/// Carries all these fields over, or none: the first that lacks its place stops it before a bit has changed.
 pub fn pack<S: Host, T: Host>(from: &S, to: &mut T, fields: &[Field]) -> Result<(), Stopped>
     ensures stopped { λ r. ⌜ Judged (S·Host .widths (now (from .entry))) (T·Host .widths (now (to .entry))) (now (fields .entry)) r ⌝ }
     ensures bits { λ r. ⌜ Carried (isOk r) (now (fields .entry)) (S·Host .widths (now (from .entry))) (S·Host .bits (now (from .entry))) (T·Host .bits (now (to .entry))) (T·Host .bits (now (to .exit))) ⌝ }

@@ -34,7 +34,7 @@ fn flags<H: Host>(heap: Global, host: &H, name: usize) -> Result<String, Fault> 
     Ok(text)
 }
 
-// A field in words.
+/// A field in words.
 pub fn told<H: Host>(heap: Global, host: &H, field: Field) -> Result<String, Fault> {
     let name = field.name();
     match field {

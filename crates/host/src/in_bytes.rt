@@ -56,7 +56,7 @@ fn splice(bytes: &mut [u8], at: usize, count: usize, value: u64)
     }
 }
 
-// Lent bytes: a row of eight bits for each, the highest first.
+/// Lent bytes: a row of eight bits for each, the highest first.
 #[derive(Drop)]
 pub struct PackedBytes<'a> {
     bytes: &'a mut [u8],
@@ -70,7 +70,7 @@ impl<'a> PackedBytes<'a> {
     }
 }
 
-// A read or a write touches at most nine bytes.
+/// A read or a write touches at most nine bytes.
 pub impl Storage for PackedBytes<'_> as BytesStorage {
     ghost room = { λ s. bytes-room (cur (s .bytes)) };
 

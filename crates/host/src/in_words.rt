@@ -4,7 +4,7 @@ ghost use denote.Ref.{now as cur};
 ghost use mathlib.Core.Path.{_≡_};
 use crate::stores::Storage;
 
-// Lent words: a row of 64 bits for each, the lowest first.
+/// Lent words: a row of 64 bits for each, the lowest first.
 #[derive(Drop)]
 pub struct Words<'a> {
     words: &'a mut [u64],
@@ -18,7 +18,7 @@ impl<'a> Words<'a> {
     }
 }
 
-// A read or a write touches at most two words.
+/// A read or a write touches at most two words.
 pub impl Storage for Words<'_> as WordsStorage {
     ghost room = { λ s. words-room (cur (s .words)) };
 

@@ -9,7 +9,7 @@ ghost use Rattle.std.specs.declared.option.Option.{Option};
 ghost use mathlib.Core.Path.{_≡_};
 use crate::reasons::Refusal;
 
-// Variables and numbers by name number. Nothing is said about how they are kept.
+/// Variables and numbers by name number. Nothing is said about how they are kept.
 pub trait Host {
     // The width of a variable, or none where the host lacks it.
     ghost widths: { Self → ℕ → Option ℕ };
@@ -28,21 +28,21 @@ pub trait Host {
 
     law bits_end: { (h : Self) (k i : ℕ) → size (widths h k) ≤ i → bits h k i ≡ 0 };
 
-    // The width of a variable; refused by 23 where there is none.
+    /// The width of a variable; refused by 23 where there is none.
     fn width(&self, name: usize) -> Result<usize, Refusal>
         ensures answer { λ r. ⌜ r ≡ found (widths (now (self .entry)) name) ⌝ };
 
-    // A number; refused by 23 where there is none.
+    /// A number; refused by 23 where there is none.
     fn number(&self, name: usize) -> Result<u32, Refusal>
         ensures answer { λ r. ⌜ r ≡ found (numbers (now (self .entry)) name) ⌝ };
 
-    // The `count` bits of a variable from `offset` on, with zeros above them; refused by 23 where there is no
-    // such variable, else by 24 where the part is not 1 to 64 bits inside it.
+    /// The `count` bits of a variable from `offset` on, with zeros above them; refused by 23 where there is no
+    /// such variable, else by 24 where the part is not 1 to 64 bits inside it.
     fn read(&self, name: usize, offset: usize, count: usize) -> Result<u64, Refusal>
         ensures refused { λ r. ⌜ refusal r ≡ part-refusal (widths (now (self .entry)) name) offset count ⌝ }
         ensures bits { λ r. ⌜ made r (λ v. Holds v count (λ i. bits (now (self .entry)) name (offset + i))) ⌝ };
 
-    // Sets these bits to the low ones of `value`, and no other; refused as `read` is, and then nothing changes.
+    /// Sets these bits to the low ones of `value`, and no other; refused as `read` is, and then nothing changes.
     fn write(&mut self, name: usize, offset: usize, count: usize, value: u64) -> Result<(), Refusal>
         ensures refused { λ r. ⌜ refusal r ≡ part-refusal (widths (now (self .entry)) name) offset count ⌝ }
         ensures bits { λ r. ⌜ Written (isOk r) name offset count value (bits (now (self .entry))) (bits (now (self .exit))) ⌝ }

@@ -11,17 +11,17 @@ use crate::interface::Host;
 use crate::laying::Laid;
 use crate::windows::Window;
 
-// Two variables of a host over words never share a bit of a word.
+/// Two variables of a host over words never share a bit of a word.
 pub fn apart_in_words(host: &Laid<Words<'_>>)
     ensures apart { λ _. ⌜ No-shared-bit word-cell word-inner (words-room (cur (now (host .entry) .store .words))) (spans-of (now (host .entry))) ⌝ }
 {}
 
-// Two variables of a host over packed bytes never share a bit of a byte.
+/// Two variables of a host over packed bytes never share a bit of a byte.
 pub fn apart_in_bytes(host: &Laid<PackedBytes<'_>>)
     ensures apart { λ _. ⌜ No-shared-bit byte-cell byte-inner (bytes-room (cur (now (host .entry) .store .bytes))) (spans-of (now (host .entry))) ⌝ }
 {}
 
-// Two variables of a window never share a bit of the variable that it shows.
+/// Two variables of a window never share a bit of the variable that it shows.
 pub fn apart_in_window<H: Host>(window: &Window<H>)
     ensures apart { λ _. ⌜ No-shared-place (size (H·Host .widths (now (window .entry) .below) (now (window .entry) .name))) (now (window .entry) .table .spans) ⌝ }
 {}

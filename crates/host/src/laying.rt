@@ -41,7 +41,7 @@ impl Table {
     }
 }
 
-// A host over a row of bits.
+/// A host over a row of bits.
 #[derive(Drop)]
 pub struct Laid<S: Storage> {
     store: S,
@@ -50,9 +50,9 @@ pub struct Laid<S: Storage> {
 }
 
 impl<S: Storage + Drop> Laid<S> {
-    // A host that lays variables of these widths end to end in `store`, from its bit 0, and has these numbers.
-    // A variable whose width is 0 or over 65,536, or which does not fit into what is left, is lacking and takes
-    // no bits. It takes memory for both lists, and one turn for each width.
+    /// A host that lays variables of these widths end to end in `store`, from its bit 0, and has these numbers.
+    /// A variable whose width is 0 or over 65,536, or which does not fit into what is left, is lacking and takes
+    /// no bits. It takes memory for both lists, and one turn for each width.
     pub fn new(
         heap: Global,
         store: S,
@@ -73,7 +73,7 @@ impl<S: Storage + Drop> Laid<S> {
     }
 }
 
-// Each call costs the same for the first name and the last.
+/// Each call costs the same for the first name and the last.
 pub impl<S: Storage> Host for Laid<S> as LaidHost {
     ghost widths = { λ h k. width-at (S·Storage .room (h .store)) (spans-of h) k };
 

@@ -2,16 +2,16 @@
 ghost use Rattle.host.specs.Refusals.{number-of, plain};
 ghost use mathlib.Core.Path.{_≡_};
 
-// A reason for a refusal.
+/// A reason for a refusal.
 #[derive(Clone, Copy, PartialEq, Eq, Debug)]
 pub enum Reason {
-    // 23: the host has no variable, or no number, of this name.
+    /// 23: the host has no variable, or no number, of this name.
     NoSuchName,
-    // 24: the part is not 1 to 64 bits, or does not lie inside the variable.
+    /// 24: the part is not 1 to 64 bits, or does not lie inside the variable.
     PartOutside,
 }
 
-// A refusal: why, and at which place of the input.
+/// A refusal: why, and at which place of the input.
 #[derive(Clone, Copy, PartialEq, Eq, Debug)]
 pub struct Refusal {
     pub reason: Reason,
@@ -19,14 +19,14 @@ pub struct Refusal {
 }
 
 impl Refusal {
-    // A refusal whose place is 0.
+    /// A refusal whose place is 0.
     pub fn plain(reason: Reason) -> Refusal
         ensures answer { λ r. ⌜ r ≡ plain reason ⌝ }
     {
         Refusal { reason, place: 0 }
     }
 
-    // The number by which the reason is known.
+    /// The number by which the reason is known.
     pub fn number(&self) -> u8
         ensures number { λ r. ⌜ r ≡ number-of (now (self .entry) .reason) ⌝ }
     {

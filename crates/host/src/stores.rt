@@ -6,7 +6,7 @@ ghost use mathlib.Core.Bool.{true};
 ghost use mathlib.Core.List.{List};
 ghost use mathlib.Core.Path.{_≡_};
 
-// A row of bits. A host is laid over one by `Laid`; the calls are for it alone.
+/// A row of bits. A host is laid over one by `Laid`; the calls are for it alone.
 pub trait Storage {
     // How many bits there are.
     ghost room: { Self → ℕ };
@@ -19,17 +19,17 @@ pub trait Storage {
 
     ghost inner: { ℕ → ℕ };
 
-    // How many bits there are.
+    /// How many bits there are.
     fn size(&self) -> usize
         ensures room { λ r. ⌜ r ≡ room (now (self .entry)) ⌝ };
 
-    // The `count` bits from `at` on, with zeros above them.
+    /// The `count` bits from `at` on, with zeros above them.
     fn get(&self, at: usize, count: usize) -> u64
         requires count { ⌜ 1 ≤ count ⌝ ∗ ⌜ count ≤ 64 ⌝ }
         requires inside { ⌜ at + count ≤ room (now self) ⌝ }
         ensures bits { λ r. ⌜ Holds r count (λ i. row-bit cell inner (cells (now (self .entry))) (at + i)) ⌝ };
 
-    // Sets these bits to the low ones of `value`, and no other.
+    /// Sets these bits to the low ones of `value`, and no other.
     fn put(&mut self, at: usize, count: usize, value: u64)
         requires count { ⌜ 1 ≤ count ⌝ ∗ ⌜ count ≤ 64 ⌝ }
         requires inside { ⌜ at + count ≤ room (now self) ⌝ }

@@ -41,7 +41,7 @@ fn room_of<H: Host>(host: &H, name: usize) -> usize
     }
 }
 
-// A window on one variable of the host below.
+/// A window on one variable of the host below.
 #[derive(Drop)]
 pub struct Window<H: Host> {
     below: H,
@@ -50,9 +50,9 @@ pub struct Window<H: Host> {
 }
 
 impl<H: Host> Window<H> {
-    // Shows the variable `name` of `below` as variables of the first 64 of these widths, laid end to end from its
-    // bit 0. One whose width is 0 or over 65,536, or which does not fit into what is left, is lacking and takes
-    // no bits; of a lacking variable nothing is shown.
+    /// Shows the variable `name` of `below` as variables of the first 64 of these widths, laid end to end from its
+    /// bit 0. One whose width is 0 or over 65,536, or which does not fit into what is left, is lacking and takes
+    /// no bits; of a lacking variable nothing is shown.
     pub fn new(below: H, name: usize, widths: &[usize]) -> Window<H>
         ensures below { λ r. ⌜ r .below ≡ below ⌝ }
         ensures name { λ r. ⌜ r .name ≡ name ⌝ }
@@ -69,7 +69,7 @@ impl<H: Host> Window<H> {
         spans::refusal_there(self.table.get(name), room_of(&self.below, self.name))
     }
 
-    // Gives the host below back.
+    /// Gives the host below back.
     pub fn into_below(self) -> H
         ensures below { λ r. ⌜ r ≡ self .below ⌝ }
     {
@@ -82,8 +82,8 @@ impl<H: Host> Window<H> {
     }
 }
 
-// Numbers come from below. An accepted read or write makes one call of the host below; only a refused one asks
-// it for a width too.
+/// Numbers come from below. An accepted read or write makes one call of the host below; only a refused one asks
+/// it for a width too.
 pub impl<H: Host> Host for Window<H> as WindowHost {
     ghost widths = { λ w k. width-at (size (H·Host .widths (w .below) (w .name))) (w .table .spans) k };
 

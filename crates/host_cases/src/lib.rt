@@ -1,4 +1,4 @@
-// Worked examples of hosts and windows, worked out by hand from the rules.
+//! Worked examples of hosts and windows, worked out by hand from the rules.
 #[cfg(test)]
 mod tests {
     use host::BytesStorage;

@@ -37,7 +37,7 @@ impl Text {
     }
 }
 
-// Literals come first, by width and then value; variables by their text.
+/// Literals come first, by width and then value; variables by their text.
 pub impl Key for Bind as BindKey {
     type Part = u8;
 

@@ -1,4 +1,4 @@
-// Lowering: the keys of its four pools, and the width call in a bound's text.
+//! Lowering: the keys of its four pools, and the width call in a bound's text.
 mod binds;
 mod call;
 mod keys;

@@ -71,7 +71,7 @@ impl Base {
     }
 }
 
-// Widths of bindings come first, by binding; the others by x, and then by what they start from.
+/// Widths of bindings come first, by binding; the others by x, and then by what they start from.
 pub impl Key for Value as ValueKey {
     type Part = u8;
 

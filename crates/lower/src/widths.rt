@@ -14,7 +14,7 @@ use pool::ValNumber;
 use pool::WidthNumber;
 use std::cmp::Ordering;
 
-// Ends alone come first, by end; the others by start and end.
+/// Ends alone come first, by end; the others by start and end.
 pub impl Key for Width as WidthKey {
     type Part = ();
 
@@ -49,7 +49,7 @@ pub impl Key for Width as WidthKey {
     }
 }
 
-// Sums are ordered by the first width in which they differ; a sum that begins another comes before it.
+/// Sums are ordered by the first width in which they differ; a sum that begins another comes before it.
 pub impl Key for CWidth as CWidthKey {
     type Part = u16;
 

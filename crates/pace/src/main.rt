@@ -1,4 +1,4 @@
-// Times reads and writes of a variable of 65,536 bits, in parts of 64 bits at odd offsets, for tools/bench.
+//! Times reads and writes of a variable of 65,536 bits, in parts of 64 bits at odd offsets, for tools/bench.
 use host::BytesStorage;
 use host::Host;
 use host::Laid;

@@ -28,7 +28,7 @@ use std::alloc::Refused;
 // At most so many windows lie on top of each other.
 const PANES: usize = 2;
 
-// A host and its windows, the lowest first. They are made anew for each call, over the storage that lasts.
+/// A host and its windows, the lowest first. They are made anew for each call, over the storage that lasts.
 #[derive(Drop)]
 pub struct Standing {
     recipe: Recipe,
@@ -113,7 +113,7 @@ impl Standing {
         }
     }
 
-    // Lays a window on top.
+    /// Lays a window on top.
     pub fn lay(&mut self, pane: Pane) -> Result<Answer, Refused<Pane>> {
         if self.panes.len() >= PANES {
             return Ok(Answer::OutOfTurn);
@@ -122,12 +122,12 @@ impl Standing {
         Ok(Answer::Done)
     }
 
-    // What the host at the bottom keeps.
+    /// What the host at the bottom keeps.
     pub fn stored(&self) -> &Stored {
         &self.recipe.stored
     }
 
-    // Makes one call.
+    /// Makes one call.
     pub fn call(&mut self, heap: Global, call: Call) -> Result<Answer, AllocError> {
         ask_stored(
             heap,

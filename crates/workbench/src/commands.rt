@@ -7,35 +7,35 @@ use crate::lists::StoredItem;
 use crate::lists::WidthItem;
 use std::alloc::Global;
 
-// What a host is laid over.
+/// What a host is laid over.
 #[derive(Drop)]
 pub enum Stored {
     Words(Vec<u64>),
     Bytes(Vec<u8>),
 }
 
-// The widths and numbers of a host, by name.
+/// The widths and numbers of a host, by name.
 #[derive(Drop)]
 pub struct Lists {
     pub widths: Vec<usize>,
     pub numbers: Vec<u32>,
 }
 
-// What a host is made of.
+/// What a host is made of.
 #[derive(Drop)]
 pub struct Recipe {
     pub lists: Lists,
     pub stored: Stored,
 }
 
-// A window: the variable that it shows, and as what.
+/// A window: the variable that it shows, and as what.
 #[derive(Drop)]
 pub struct Pane {
     pub name: usize,
     pub widths: Vec<usize>,
 }
 
-// A call of a host.
+/// A call of a host.
 #[derive(Clone, Copy)]
 pub enum Call {
     Width {
@@ -57,7 +57,7 @@ pub enum Call {
     },
 }
 
-// What is asked of the host that stands.
+/// What is asked of the host that stands.
 #[derive(Drop)]
 pub enum Request {
     Window(Pane),
@@ -141,7 +141,7 @@ fn parse_request(heap: Global, first: &[u8], line: &mut Line) -> Result<Request,
     }
 }
 
-// The command of a line, or none where the line is blank or a comment.
+/// The command of a line, or none where the line is blank or a comment.
 pub fn parse(heap: Global, bytes: &[u8]) -> Result<Option<Command>, Misread> {
     let mut line = Line::new(bytes);
     let Some(first) = line.next_word() else {

@@ -42,7 +42,7 @@ fn unbroken(bytes: &[u8]) -> usize
     bytes.len()
 }
 
-// What is left of a line.
+/// What is left of a line.
 #[derive(Drop)]
 pub struct Line<'a> {
     rest: &'a [u8],
@@ -55,7 +55,7 @@ impl<'a> Line<'a> {
         Line { rest }
     }
 
-    // Takes the next word, if there is one.
+    /// Takes the next word, if there is one.
     pub fn next_word(&mut self) -> Option<&'a [u8]>
         ensures word { λ r. ⌜ mapped cur r ≡ first-word (now (now (self .entry) .rest)) ⌝ }
         ensures rest { λ _. ⌜ now (now (self .exit) .rest) ≡ after-word (now (now (self .entry) .rest)) ⌝ }
@@ -68,12 +68,12 @@ impl<'a> Line<'a> {
         if to == 0 { None } else { Some(&rest[0..to]) }
     }
 
-    // Takes the next word, which has to be there.
+    /// Takes the next word, which has to be there.
     pub fn word(&mut self) -> Result<&'a [u8], Misread> {
         self.next_word().ok_or(Misread::Unreadable)
     }
 
-    // Takes the next word, a decimal.
+    /// Takes the next word, a decimal.
     pub fn number(&mut self) -> Result<usize, Misread> {
         match numbers::decimal(self.word()?) {
             Some(number) => Ok(number as usize),
@@ -81,12 +81,12 @@ impl<'a> Line<'a> {
         }
     }
 
-    // Takes the next word, hexadecimal.
+    /// Takes the next word, hexadecimal.
     pub fn hex_word(&mut self) -> Result<u64, Misread> {
         numbers::hex_word(self.word()?).ok_or(Misread::Unreadable)
     }
 
-    // There has to be no word left.
+    /// There has to be no word left.
     pub fn end(&mut self) -> Result<(), Misread> {
         match self.next_word() {
             Some(_) => Err(Misread::Unreadable),

@@ -11,7 +11,7 @@ use crate::faults::*;
 use crate::numbers;
 use std::alloc::Global;
 
-// What stands between the commas of a list.
+/// What stands between the commas of a list.
 pub trait Item {
     // The item that a word spells, if it spells one.
     fn read(word: &[u8]) -> Option<Self>
@@ -19,14 +19,14 @@ pub trait Item {
         Self: Sized;
 }
 
-// A width: any decimal.
+/// A width: any decimal.
 pub impl Item for usize as WidthItem {
     fn read(word: &[u8]) -> Option<usize> {
         Some(numbers::decimal(word)? as usize)
     }
 }
 
-// A number: a decimal of at most 32 bits.
+/// A number: a decimal of at most 32 bits.
 pub impl Item for u32 as NumberItem {
     fn read(word: &[u8]) -> Option<u32> {
         let number = numbers::decimal(word)?;
@@ -38,7 +38,7 @@ pub impl Item for u32 as NumberItem {
     }
 }
 
-// A stored word: hexadecimal.
+/// A stored word: hexadecimal.
 pub impl Item for u64 as StoredItem {
     fn read(word: &[u8]) -> Option<u64> {
         numbers::hex_word(word)
@@ -58,7 +58,7 @@ fn before_comma(bytes: &[u8]) -> usize
     bytes.len()
 }
 
-// The items of a list.
+/// The items of a list.
 pub fn items<T: Item + Drop>(heap: Global, word: &[u8]) -> Result<Vec<T>, Misread>
     ensures len { λ r. ⌜ made r (λ v. vec-len v ≤ commas (now (word .entry)) + 1) ⌝ }
 {
@@ -80,7 +80,7 @@ pub fn items<T: Item + Drop>(heap: Global, word: &[u8]) -> Result<Vec<T>, Misrea
     }
 }
 
-// The bytes that pairs of hexadecimal digits spell.
+/// The bytes that pairs of hexadecimal digits spell.
 pub fn bytes(heap: Global, word: &[u8]) -> Result<Vec<u8>, Misread>
     ensures len { λ r. ⌜ made r (λ v. 2 * vec-len v ≤ length (now (word .entry))) ⌝ }
 {

@@ -1,4 +1,4 @@
-// The workbench: reads calls from standard input, one a line, and prints each answer.
+//! The workbench: reads calls from standard input, one a line, and prints each answer.
 mod answers;
 mod bench;
 mod commands;

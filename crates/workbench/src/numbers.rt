@@ -6,7 +6,7 @@ ghost use mathlib.Core.Path.{_≡_};
 ghost use lib.ListN.{length};
 ghost use Rattle.std.specs.declared.option.Option.the-variants.{Some};
 
-// What a digit is worth, with small and capital letters for those above nine.
+/// What a digit is worth, with small and capital letters for those above nine.
 pub fn digit(byte: u8) -> Option<u8>
     ensures worth { λ r. ⌜ r ≡ digit-worth byte ⌝ }
 {
@@ -47,7 +47,7 @@ pub fn decimal(word: &[u8]) -> Option<u64>
     in_base(10, word)
 }
 
-// A word of at most 64 bits, as `0xab`.
+/// A word of at most 64 bits, as `0xab`.
 pub fn hex_word(word: &[u8]) -> Option<u64>
     ensures value { λ r. ⌜ r ≡ hex-word (now (word .entry)) ⌝ }
 {
