@@ -1,4 +1,13 @@
-//! Worked examples of hosts and windows, worked out by hand from the rules.
+//! Worked examples of hosts and windows, worked out by hand from the rules: of the definitions, as contracts, and of
+//! the calls, as tests.
+mod examples;
+
+pub use examples::laid_in_a_word;
+pub use examples::parts_of_seventy;
+pub use examples::places;
+pub use examples::shown;
+pub use examples::widest;
+
 #[cfg(test)]
 mod tests {
     use host::BytesStorage;

@@ -1,0 +1,7 @@
+use mathlib.Core.Path.{refl}
+use Rattle.bits.specs.Bit.{bit}
+use Rattle.host_cases.proofs.examples.places.Needs as need
+
+pub returns : need.returns
+unfolding bit
+returns c = record { example = (refl, refl, refl, refl, refl, refl) }
