@@ -93,11 +93,10 @@ pub impl Key for Value as ValueKey {
             },
             Value::Usize { base, x } => match *other {
                 Value::Bitwidth(_) => Ordering::Greater,
-                Value::Usize { base: b, x: y } => compare_signed(x, y).then(base.compare(
-                    own,
-                    b,
-                    others,
-                )),
+                Value::Usize { base: b, x: y } => {
+                    let by_x = compare_signed(x, y);
+                    by_x.then(base.compare(own, b, others))
+                }
             },
         }
     }

@@ -1,7 +1,7 @@
 -- That keys can be found is a fact with one proof at most, so it comes out of its truncation.
 use mathlib.Core.Path.{_≡_, ap}
 use mathlib.Core.Bool.{Bool-set}
-use mathlib.Core.HLevel.{Π-prop, hedberg}
+use mathlib.Core.HLevel.{hedberg}
 use mathlib.Core.Logic.{∥∥₁-elim}
 use mathlib.Core.List.{List}
 use Prim.Native.Nat.{ℕ}
@@ -13,7 +13,7 @@ use Rattle.std.specs.declared.cmp.Ordering.{Ordering}
 use Rattle.std.specs.declared.cmp.Ordering.the-variants.{Less, Equal, Greater}
 use Rattle.std.specs.Orderings.{placed}
 use Rattle.pool.specs.declared.pool.Pool.{Pool}
-use Rattle.pool.specs.Held.{placesOf, Ordered, Reached}
+use Rattle.pool.specs.Held.{placesOf, Ordered}
 use Rattle.pool.specs.Pools.{inUse, poolKeys, Findable, Sound}
 
 apart : {x y : Ordering} → (placed x ≡ placed y → ⊥) → Dec (x ≡ y)

@@ -1,9 +1,8 @@
 -- First occurrences and numbers.
-use mathlib.Core.Path.{_≡_, refl, sym, ap, subst, _∙_}
-use mathlib.Core.Logic.{⊎-elim}
+use mathlib.Core.Path.{_≡_, refl, sym, ap, _∙_}
 use mathlib.Core.Bool.{Bool, true, false, cond, _||_}
 use mathlib.Core.List.{List, [], _∷_, _++_}
-use Prim.Native.Nat.{ℕ, zero, suc, _<_, _≤_}
+use Prim.Native.Nat.{ℕ, zero, suc, _<_}
 use native.Mathlib.Omega.{arith}
 use lib.ListN.{length, getD}
 use Rattle.std.proofs.shelf.Lists.{append-nil}
@@ -15,7 +14,7 @@ use Rattle.std.specs.declared.option.Option.the-variants.{Some, None}
 use Rattle.std.specs.Options.{mapped, isSome, valueOr}
 use Rattle.std.specs.Orderings.{isEq}
 use Rattle.pool.specs.Order.{Orders}
-use Rattle.pool.specs.Firsts.{known, numberIn, withKey, without, firsts, Once}
+use Rattle.pool.specs.Firsts.{known, numberIn, withKey, without, firsts}
 
 -- an answer that is not `Equal`
 pub not-eq : (o : Ordering) → (o ≡ Equal → ⊥) → isEq o ≡ false

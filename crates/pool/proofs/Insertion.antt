@@ -1,12 +1,12 @@
 -- What the entries in use hold once one more is added.
-use mathlib.Core.Path.{_≡_, refl, sym, ap, subst, _∙_}
+use mathlib.Core.Path.{_≡_, sym, ap, subst, _∙_}
 use mathlib.Core.Logic.{_⊎_, inl, inr, ⊎-elim}
 use mathlib.Core.List.{List, [], _∷_, _++_, map}
 use Prim.Native.Nat.{ℕ, _<_, _≤_, _+_, _-_}
 use native.Mathlib.Omega.{arith}
 use lib.ListN.{length, getD, take}
 use Rattle.std.proofs.shelf.Tests.{cases-lt, cases-order}
-use Rattle.std.proofs.shelf.Lists.{length-map, length-take-le, length-push, getD-map, getD-take, same-lists, map-more, getD-default}
+use Rattle.std.proofs.shelf.Lists.{length-map, length-take-le, getD-map, getD-take, same-lists, map-more}
 use Rattle.std.proofs.shelf.Edits.{length-inserted, getD-inserted-below, getD-inserted-at, getD-inserted-above}
 use Rattle.std.specs.shelf.Lists.{inserted}
 use Rattle.std.specs.declared.cmp.Ordering.{Ordering}

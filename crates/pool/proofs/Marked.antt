@@ -6,7 +6,7 @@ use Prim.Native.Nat.{ℕ, zero, suc, _<_, _≤_}
 use native.Mathlib.Omega.{arith}
 use lib.ListN.{length, getD, set, take}
 use Rattle.std.proofs.shelf.Tests.{cases-eq}
-use Rattle.std.proofs.shelf.Lists.{length-set, length-map, length-take-le, map-set, set-getD, getD-map, getD-take, getD-set-same, getD-set-other}
+use Rattle.std.proofs.shelf.Lists.{length-set, length-take-le, map-set, set-getD, getD-map, getD-take, getD-set-same, getD-set-other}
 use Rattle.std.specs.declared.cmp.Ordering.{Ordering}
 use Rattle.pool.specs.declared.entry.Entry.{Entry}
 use Rattle.pool.specs.Held.{keysOf, marksOf, placesOf, Ordered, Reached}

@@ -1,9 +1,9 @@
 -- Parts that are copied behind those in use.
 use mathlib.Core.Path.{_≡_, sym, ap, _∙_}
 use mathlib.Core.List.{List, _++_}
-use Prim.Native.Nat.{ℕ, _<_, _≤_, _+_, _-_}
+use Prim.Native.Nat.{ℕ, _≤_, _+_, _-_}
 use native.Mathlib.Omega.{arith}
-use lib.ListN.{length, getD, take, drop}
+use lib.ListN.{length, getD, take}
 use Rattle.std.proofs.shelf.Lists.{take-all, getD-drop}
 use Rattle.std.proofs.shelf.Edits.{take-paste, drop-paste}
 use Rattle.std.specs.shelf.Lists.{paste}

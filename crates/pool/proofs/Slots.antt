@@ -2,23 +2,21 @@
 use mathlib.Core.Path.{_≡_, refl, sym, ap, subst, _∙_}
 use mathlib.Core.Logic.{_⊎_, inl, inr, ⊎-elim}
 use mathlib.Core.Bool.{Bool, true, false, _||_}
-use mathlib.Core.List.{List, [], _∷_, _++_}
-use Prim.Native.Nat.{ℕ, zero, suc, _<_, _≤_, _+_, _-_}
+use mathlib.Core.List.{List, [], _∷_}
+use Prim.Native.Nat.{ℕ, zero, suc, _<_, _≤_, _+_}
 use native.Mathlib.Omega.{arith}
 use lib.Dec.{eqb}
 use lib.ListN.{length, getD}
 use Rattle.std.proofs.shelf.Tests.{cases-lt, cases-order, false≢true, eqb-true, eq-eqb}
-use Rattle.std.proofs.shelf.Lists.{getD-default, getD-append-left, getD-push, length-push}
-use Rattle.std.proofs.shelf.Edits.{length-inserted, getD-inserted-below, getD-inserted-at, getD-inserted-above}
-use Rattle.std.specs.shelf.Lists.{inserted}
+use Rattle.std.proofs.shelf.Lists.{getD-default}
 use Rattle.std.specs.declared.cmp.Ordering.{Ordering}
 use Rattle.std.specs.declared.cmp.Ordering.the-variants.{Less, Equal, Greater}
 use Rattle.std.specs.declared.option.Option.the-variants.{Some, None}
 use Rattle.std.specs.Orderings.{reversed, isEq}
 use Rattle.pool.specs.Order.{Orders}
-use Rattle.pool.specs.Firsts.{known, numberIn, withKey, Once}
+use Rattle.pool.specs.Firsts.{numberIn, Once}
 use Rattle.pool.specs.Held.{keyIn, stands, Ordered, Below, Above, Over}
-use Rattle.pool.proofs.Firsts.{number-first, number-none, known-number}
+use Rattle.pool.proofs.Firsts.{number-first, number-none}
 
 -- a number stands in a list where it is the element at some index
 pub stands-at : (xs : List ℕ) (i n : ℕ) → i < length xs → getD xs i 0 ≡ n → stands xs n ≡ true

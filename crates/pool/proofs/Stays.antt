@@ -1,9 +1,9 @@
 -- Parts are stored behind those in use: the keys in the pool mean what they meant, and a key that is moved to the new parts joins them.
-use mathlib.Core.Path.{_≡_, refl, sym, ap, ap₂, subst, _∙_}
+use mathlib.Core.Path.{_≡_, refl, sym, ap₂, subst, _∙_}
 use mathlib.Core.List.{List, [], _∷_, _++_}
 use Prim.Native.Nat.{ℕ, suc, _<_, _≤_, _+_}
 use native.Mathlib.Omega.{arith}
-use lib.ListN.{length, getD}
+use lib.ListN.{length}
 use Rattle.std.proofs.shelf.Lists.{length-append}
 use Rattle.std.specs.declared.cmp.Ordering.{Ordering}
 use Rattle.pool.specs.declared.entry.Entry.{Entry}

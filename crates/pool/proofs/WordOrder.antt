@@ -1,12 +1,12 @@
 -- The orders that keys are made of obey the laws.
-use mathlib.Core.Path.{_≡_, refl, sym, ap, ap₂, subst, _∙_}
+use mathlib.Core.Path.{_≡_, refl, sym, ap, ap₂, subst}
 use mathlib.Core.List.{List, [], _∷_}
 use Prim.Native.Nat.{ℕ, _<_}
 use Rattle.std.proofs.shelf.Tests.{false≢true}
 use Rattle.std.specs.declared.cmp.Ordering.{Ordering}
 use Rattle.std.specs.declared.cmp.Ordering.the-variants.{Less, Equal, Greater}
 use Rattle.std.specs.Orderings.{isEq, isLt, reversed, thenBy, Ranked}
-use Rattle.std.specs.Keys.{Total, rank, ranks, unsigned}
+use Rattle.std.specs.Keys.{Total, ranks, unsigned}
 use Rattle.std.specs.Lexical.{lexical}
 use Rattle.pool.specs.Order.{Orders}
 use Rattle.pool.specs.Words.{byNumber, byWord}

@@ -17,7 +17,8 @@ impl<'a, K: Key, M: Copy> Pool<'a, K, M> {
         requires used { ⌜ Number·Number .number number < now self .used ⌝ }
         ensures marks { λ r. ⌜ ((d : AnEntry K M) → r ≡ getD (entriesOf (now (self .entry))) (Number·Number .number number) d .marks) ⌝ }
     {
-        let index = number.index() as usize;
+        let at = number.index();
+        let index = at as usize;
         self.walk()[index].marks
     }
 
@@ -34,7 +35,8 @@ impl<'a, K: Key, M: Copy> Pool<'a, K, M> {
         ensures fits { λ _. ⌜ Fits (now (self .exit)) ⌝ }
         ensures sound { λ _. ⌜ ((ps : List K·Part) → Sound (K·Key .order) (K·Key .meaning) (K·Key .reach) ps (now (self .entry)) → Sound (K·Key .order) (K·Key .meaning) (K·Key .reach) ps (now (self .exit))) ⌝ }
     {
-        let index = number.index() as usize;
-        self.entries[index].marks = marks;
+        let at = number.index();
+        let place = at as usize;
+        self.entries[place].marks = marks;
     }
 }

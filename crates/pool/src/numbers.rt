@@ -1,5 +1,4 @@
 // The number types, one for each pool, so that the number of one pool is never taken for that of another.
-ghost use mathlib.Core.Path.{_≡_};
 use crate::key::Number;
 
 /// The number of a binding.

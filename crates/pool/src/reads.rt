@@ -1,5 +1,5 @@
 // Making a pool, and what is read of it by number.
-ghost use Prim.Native.Nat.{ℕ, _<_, _≤_};
+ghost use Prim.Native.Nat.{_<_, _≤_};
 ghost use mathlib.Core.Path.{_≡_};
 ghost use mathlib.Core.List.{List, []};
 ghost use lib.ListN.{length, getD};
@@ -55,7 +55,8 @@ impl<'a, K: Key, M: Copy> Pool<'a, K, M> {
         requires used { ⌜ Number·Number .number number < now self .used ⌝ }
         ensures key { λ r. ⌜ ((d : AnEntry K M) → r ≡ getD (entriesOf (now (self .entry))) (Number·Number .number number) d .key) ⌝ }
     {
-        let index = number.index() as usize;
+        let at = number.index();
+        let index = at as usize;
         self.walk()[index].key
     }
 }

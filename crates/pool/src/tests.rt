@@ -1,5 +1,5 @@
 // Two small keys, and pools of them.
-ghost use Prim.Native.Nat.{ℕ, _+_, _≤_};
+ghost use Prim.Native.Nat.{ℕ, _+_};
 ghost use mathlib.Core.List.{List};
 ghost use Rattle.pool.specs.Words.{stretchOf, byNumber, byWord};
 use crate::*;

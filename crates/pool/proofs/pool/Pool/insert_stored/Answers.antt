@@ -7,7 +7,7 @@ use lib.ListN.{length}
 use Rattle.std.proofs.shelf.Lists.{length-append, length-take-le}
 use Rattle.std.proofs.shelf.Tests.{both-ways}
 use Rattle.std.specs.declared.option.Option.the-variants.{Some}
-use Rattle.std.specs.declared.result.Result.the-variants.{Ok, Err}
+use Rattle.std.specs.declared.result.Result.the-variants.{Err}
 use Rattle.pool.specs.Firsts.{known, numberIn}
 use Rattle.pool.specs.Held.{placesOf, Sought}
 use Rattle.pool.specs.Pools.{entriesOf, inUse, poolKeys, poolMarks, Findable}

@@ -5,5 +5,5 @@ use Rattle.pool.proofs.pool.Pool.key.Needs as need
 
 pub returns : need.returns
 returns g c = record {
-  key = λ d. ap (λ (e : Entry (g .K .Denot) (g .M .Denot)). e .key) (walk-at (c .args .self .now) (c .pre .fits .0) (c .walk .result .now) (c .index-index .result) (g .Number·Number .number (c .args .number)) (c .index-walk-index .result) d (c .walk .ensures .entries) (c .index-index .ensures .number) (c .pre .used));
+  key = λ d. ap (λ (e : Entry (g .K .Denot) (g .M .Denot)). e .key) (walk-at (c .args .self .now) (c .pre .fits .0) (c .walk .result .now) (c .index-at .result) (g .Number·Number .number (c .args .number)) (c .index-walk-index .result) d (c .walk .ensures .entries) (c .index-at .ensures .number) (c .pre .used));
 }

@@ -1,8 +1,6 @@
-use mathlib.Core.Path.{_≡_, subst, sym, ap, _∙_}
+use mathlib.Core.Path.{ap, _∙_}
 use Prim.Native.Nat.{ℕ, _+_}
 use native.Mathlib.Omega.{arith}
-use lib.ListN.{getD, set}
-use Rattle.pool.specs.Moved.{Added}
 use Rattle.pool.specs.Pools.{entriesOf}
 use Rattle.pool.proofs.Changes.{added-from-shifted}
 use Rattle.pool.proofs.pool.Pool.put.Needs as need

@@ -12,10 +12,10 @@ pub returns : need.returns
 returns g c =
     let pool = c .args .self .now in
     let es = entriesOf pool in
-    let i = c .index-index .result in
-    let x = c .index-self-index .result in
+    let i = c .index-at .result in
+    let x = c .index-self-place .result in
     let m = c .args .marks in
-    let e = c .index-index .ensures .number in
+    let e = c .index-at .ensures .number in
     let in′ : i < pool .used = omega (arith, e, c .pre .used) in
     let long : length (set es i (record { key = getD es i x .key; marks = m; place = getD es i x .place })) ≡ length es = length-set es i (record { key = getD es i x .key; marks = m; place = getD es i x .place }) in
     record {
