@@ -290,3 +290,26 @@ places-apart room spans o j k i l ne h m e =
     (λ (a : j < k). omega (arith, apart room (span-at spans j) (span-at spans k) i l (o j k a) h m))
     (λ (a : k ≤ j). omega (arith, apart room (span-at spans k) (span-at spans j) l i (o k j (omega arith)) m h))
     (cases-lt j k)
+
+-- a place that fits lies inside the row whole
+placed-whole : (room at w : ℕ) → lies room (placed room at w) ≡ placed room at w
+placed-whole room at w =
+    let s : Span = record { start = at; width = w } in
+    ⊎-elim
+    (λ (e : fits room at w ≡ true).
+    let p = and-parts (leb 1 w && leb w 65536) (leb (at + w) room) e in
+    let a : 1 ≤ w = leb-true 1 w (and-parts (leb 1 w) (leb w 65536) (p .0) .0) in
+    let b : at + w ≤ room = leb-true (at + w) room (p .1) in
+    let i : placed room at w ≡ Some s = cond-true (fits room at w) (Some s) None e in
+    let l : at < room = omega arith in
+    let m : min w (room - at) ≡ w = omega arith in
+    ap (lies room) i ∙ cond-true (ltb at room) (Some (clipped room s)) None (lt-ltb at room l)
+    ∙ ap (λ (x : ℕ). Some (record { start = at; width = x })) m ∙ sym i)
+    (λ (e : fits room at w ≡ false).
+    let i : placed room at w ≡ None = cond-false (fits room at w) (Some s) None e in ap (lies room) i ∙ sym i)
+    (cases-bool (fits room at w))
+
+pub laid-whole : (room at : ℕ) (ws : List ℕ) (k : ℕ) → seen room (laid room at ws) k ≡ span-at (laid room at ws) k
+laid-whole room at [] k = refl
+laid-whole room at (w ∷ ws) zero = placed-whole room at w
+laid-whole room at (w ∷ ws) (suc k) = laid-whole room (at + cond (fits room at w) w 0) ws k

@@ -5,7 +5,7 @@ use mathlib.Core.List.{List}
 use Rattle.std.specs.Of.Vec.{vec-items}
 use Rattle.std.specs.declared.option.Option.{Option}
 use Rattle.host.specs.Parts.{size}
-use Rattle.host.specs.Spans.{span-at, start-of, width-at}
+use Rattle.host.specs.Spans.{laid, seen, span-at, start-of, width-at}
 use Rattle.host.specs.declared.laying.Laid.{Laid}
 use Rattle.host.specs.declared.spans.Span.{Span}
 
@@ -27,3 +27,7 @@ abbrev pub No-shared-bit : (ℕ → ℕ) → (ℕ → ℕ) → ℕ → List (Opt
 No-shared-bit cell inner room spans =
     (j k i l : ℕ) → (j ≡ k → ⊥) → i < size (width-at room spans j) → l < size (width-at room spans k)
     → cell (place-in spans j i) ≡ cell (place-in spans k l) → inner (place-in spans j i) ≡ inner (place-in spans k l) → ⊥
+
+-- places that were laid in a row lie inside it whole
+abbrev pub Laid-whole : Type 0
+Laid-whole = (room : ℕ) (widths : List ℕ) (k : ℕ) → seen room (laid room 0 widths) k ≡ span-at (laid room 0 widths) k

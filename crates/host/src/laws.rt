@@ -1,5 +1,6 @@
-// What holds of every host over a row of bits, and of every window: no bit belongs to two variables.
-ghost use Rattle.host.specs.Hosts.{No-shared-bit, No-shared-place, spans-of};
+// What holds of every host over a row of bits, and of every window: its variables lie inside whole, and no bit
+// belongs to two.
+ghost use Rattle.host.specs.Hosts.{Laid-whole, No-shared-bit, No-shared-place, spans-of};
 ghost use Rattle.host.specs.Parts.{size};
 ghost use Rattle.host.specs.Rows.{byte-cell, byte-inner, bytes-room, word-cell, word-inner, words-room};
 ghost use denote.Ref.{now as cur};
@@ -10,6 +11,11 @@ use crate::in_words::WordsStorage;
 use crate::interface::Host;
 use crate::laying::Laid;
 use crate::windows::Window;
+
+/// What a new host or window lays in its row, it shows whole: nothing of a variable lies outside.
+pub fn laid_lies_whole()
+    ensures whole { λ _. ⌜ Laid-whole ⌝ }
+{}
 
 /// Two variables of a host over words never share a bit of a word.
 pub fn apart_in_words(host: &Laid<Words<'_>>)

@@ -33,6 +33,7 @@ pub use interface::Host;
 pub use laws::apart_in_bytes;
 pub use laws::apart_in_window;
 pub use laws::apart_in_words;
+pub use laws::laid_lies_whole;
 pub use laying::Laid;
 pub use laying::LaidHost;
 pub use reasons::Reason;
