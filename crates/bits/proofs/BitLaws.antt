@@ -100,21 +100,21 @@ chosen false a b h l =
     (both_digits (λ y. differ 0 (min (differ 0 y) 0) ≡ 0) b l refl refl)
     (both_digits (λ y. differ 1 (min (differ 1 y) 0) ≡ 1) b l refl refl)
 
-pub bit_and : (a b i : ℕ) → bit (bit_and a b) i ≡ min (bit a i) (bit b i)
+pub bit-and : (a b i : ℕ) → bit (bit_and a b) i ≡ min (bit a i) (bit b i)
 unfolding bit
-bit_and a b i =
+bit-and a b i =
     ap (λ (x : ℕ). x % 2) (and_shr a b i ∙ and_step (a / 2 ^ i) (b / 2 ^ i))
     ∙ digits_mod (bit_and (a / 2 ^ i / 2) (b / 2 ^ i / 2)) (min_two (a / 2 ^ i) (b / 2 ^ i))
 
-pub bit_or : (a b i : ℕ) → bit (bit_or a b) i ≡ max (bit a i) (bit b i)
+pub bit-or : (a b i : ℕ) → bit (bit_or a b) i ≡ max (bit a i) (bit b i)
 unfolding bit
-bit_or a b i =
+bit-or a b i =
     ap (λ (x : ℕ). x % 2) (or_shr a b i ∙ or_step (a / 2 ^ i) (b / 2 ^ i))
     ∙ digits_mod (bit_or (a / 2 ^ i / 2) (b / 2 ^ i / 2)) (max_two (a / 2 ^ i) (b / 2 ^ i))
 
-pub bit_xor : (a b i : ℕ) → bit (bit_xor a b) i ≡ differ (bit a i) (bit b i)
+pub bit-xor : (a b i : ℕ) → bit (bit_xor a b) i ≡ differ (bit a i) (bit b i)
 unfolding bit
-bit_xor a b i =
+bit-xor a b i =
     ap (λ (x : ℕ). x % 2) (xor_shr a b i ∙ xor_step (a / 2 ^ i) (b / 2 ^ i))
     ∙ digits_mod (bit_xor (a / 2 ^ i / 2) (b / 2 ^ i / 2))
     (differ_two (a / 2 ^ i % 2) (b / 2 ^ i % 2) (mod-lt (a / 2 ^ i) two) (mod-lt (b / 2 ^ i) two))

@@ -4,7 +4,7 @@ use lib.Bits.{bit_and, bit_xor, and_le_r, and_mask, xor_lt}
 use Rattle.std.proofs.lemmas.Nat.{mod_below}
 use Rattle.std.proofs.lemmas.Bool.Decides.{nat_tests}
 use Rattle.bits.specs.Bit.{bit, pair_bit, within}
-use Rattle.bits.proofs.BitLaws.{bit_and, bit_below, bit_halves, bit_shl, bit_xor, chosen}
+use Rattle.bits.proofs.BitLaws.{bit-and, bit_below, bit_halves, bit_shl, bit-xor, chosen}
 use Rattle.bits.proofs.spliced.Goals as goal
 
 -- the 128 bits with the part changed
@@ -17,8 +17,8 @@ new_below old mask shifted h l =
 
 new_bit : (old mask shifted i : ℕ) (t : Bool) → bit mask i ≡ cond t 1 0 → bit (new old mask shifted) i ≡ cond t (bit shifted i) (bit old i)
 new_bit old mask shifted i t e =
-    bit_xor old (bit_and (bit_xor old shifted) mask) i
-    ∙ ap (differ (bit old i)) (bit_and (bit_xor old shifted) mask i ∙ ap₂ min (bit_xor old shifted i) e)
+    bit-xor old (bit_and (bit_xor old shifted) mask) i
+    ∙ ap (differ (bit old i)) (bit-and (bit_xor old shifted) mask i ∙ ap₂ min (bit-xor old shifted i) e)
     ∙ chosen t (bit old i) (bit shifted i) (bit_below old i) (bit_below shifted i)
 
 -- a mask of `n` ones, shifted: ones within the part

@@ -3,7 +3,7 @@ use native.Mathlib.Nat.{div-eq_of_lt, div-eq-sub-div}
 use lib.Bits.{bit_and, bit_or}
 use Rattle.std.proofs.lemmas.Bool.{cases_Bool, cases_lt, cond-false, cond-true, eq-eqb, eqb-false, eqb-true, le-ltb, lt-ltb, ne_eqb}
 use Rattle.bits.specs.Bit.{bit, lower, neighbour}
-use Rattle.bits.proofs.BitLaws.{bit_and, bit_below, bit_mod, bit_or, bit_shl, bit_shr, masked}
+use Rattle.bits.proofs.BitLaws.{bit-and, bit_below, bit_mod, bit-or, bit_shl, bit_shr, masked}
 use Rattle.bits.proofs.swapped.Goals as goal
 
 -- the bit that comes down from the neighbour above, or the one that comes up from below
@@ -46,10 +46,10 @@ returns c =
     let by : ℕ = c.args.by in
     record {
       bits = λ i h.
-          bit_or (bit_and (x / 2 ^ by) mask) (bit_and x mask * 2 ^ by % 2 ^ 64) i
+          bit-or (bit_and (x / 2 ^ by) mask) (bit_and x mask * 2 ^ by % 2 ^ 64) i
           ∙ ap₂ max
-          (bit_and (x / 2 ^ by) mask i ∙ ap (λ (y : ℕ). min y (bit mask i)) (bit_shr x by i))
+          (bit-and (x / 2 ^ by) mask i ∙ ap (λ (y : ℕ). min y (bit mask i)) (bit_shr x by i))
           (bit_mod (bit_and x mask * 2 ^ by) 64 i h ∙ bit_shl (bit_and x mask) by i
-          ∙ ap (λ (y : ℕ). cond (ltb i by) 0 y) (bit_and x mask (i - by)))
+          ∙ ap (λ (y : ℕ). cond (ltb i by) 0 y) (bit-and x mask (i - by)))
           ∙ either x mask by i c.requires.by.0 (c.requires.mask i h) (λ l. c.requires.mask (i - by) (omega arith));
     }
