@@ -31,13 +31,13 @@ shifted_value : (value old at n i : ℕ) → cond (within at n i) (bit (value * 
 shifted_value value old at n i =
     ap (λ (x : ℕ). cond (within at n i) x old) (bit_shl value at i) ∙ grind (arith, nat_tests)
 
-pub overflow-cast-result-2 : goal.overflow-cast-result-2
-overflow-cast-result-2 c =
+pub overflow_cast-result-2 : goal.overflow_cast-result-2
+overflow_cast-result-2 c =
     let old : ℕ = c.joined-old.result in
     let mask : ℕ = c.ones.result * 2 ^ c.args.shift % 2 ^ 128 in
     let shifted : ℕ = c.args.value * 2 ^ c.args.shift % 2 ^ 128 in
     let l : mask < 2 ^ 128 = mod_below (c.ones.result * 2 ^ c.args.shift) (2 ^ 128) (omega arith) in
-    let f : new old mask shifted / 2 ^ 64 < 2 ^ 64 = shr_lt 64 64 (new_below old mask shifted c.joined-old.type-inv l) in
+    let f : new old mask shifted / 2 ^ 64 < 2 ^ 64 = shr_lt 64 64 (new_below old mask shifted c.joined-old.type_inv l) in
     record { fits = f }
 
 pub returns : goal.returns
@@ -50,7 +50,7 @@ returns c =
     let a : 64 + at ≤ 128 = omega arith in
     let mask : ℕ = c.ones.result * 2 ^ at % 2 ^ 128 in
     let shifted : ℕ = value * 2 ^ at % 2 ^ 128 in
-    let m : mask ≡ c.ones.result * 2 ^ at = shl_exact 64 at 128 c.ones.type-inv a in
+    let m : mask ≡ c.ones.result * 2 ^ at = shl_exact 64 at 128 c.ones.type_inv a in
     let s : shifted ≡ value * 2 ^ at = shl_exact 64 at 128 v a in
     record {
       bits = λ i.

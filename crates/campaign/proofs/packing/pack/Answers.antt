@@ -17,7 +17,7 @@ loop-field-preserved g c = (
       carried_more k c.name.result i (named k (take c.loop-field.field-index c.args.fields.now))
       (λ n. g.S.Host.bits c.args.from.now n i) (λ n. size (g.S.Host.widths c.args.from.now n))
       (g.T.Host.bits c.args.to.now k i) (g.T.Host.bits c.loop-field.to k i) (g.T.Host.bits c.copy-field.new.to k i)
-      (c.in-default.ensures.bits k i) (c.loop-field.invariant.1 k i)
+      (c.in_default.ensures.bits k i) (c.loop-field.invariant.1 k i)
       ∙ ap (λ (b : Bool). cond (b && ltb i (size (g.S.Host.widths c.args.from.now k))) (g.S.Host.bits c.args.from.now k i) (g.T.Host.bits c.args.to.now k i)) (sym m),
 )
 

@@ -6,15 +6,15 @@ use Rattle.components.proofs.Walks.{all_stops, all_further, all_done}
 use Rattle.components.proofs.Widths.{sum_further, unknown_fails, larger_fails}
 use Rattle.components.proofs.concatenation.has_static_width.Goals as goal
 
-pub returns-in-default : goal.returns-in-default
-returns-in-default c =
-    let stops = all_stops known_width c.args.comps.now c.loop-comp.comp-index c.loop-comp.invariant.0 _ c.loop-comp-test.true (sym (ap is_some c.in-default.ensures.answer)) in
+pub returns-in_default : goal.returns-in_default
+returns-in_default c =
+    let stops = all_stops known_width c.args.comps.now c.loop-comp.comp-index c.loop-comp.invariant.0 _ c.loop-comp-test.true (sym (ap is_some c.in_default.ensures.answer)) in
     record { answer = unknown_fails c.args.comps.now c.args.claimed stops }
 
-pub returns-in-default-checked-add : goal.returns-in-default-checked-add
-returns-in-default-checked-add c =
+pub returns-in_default-checked-add : goal.returns-in_default-checked-add
+returns-in_default-checked-add c =
     let step = sum_further c.args.comps.now c.loop-comp.comp-index c.in-Some.width _ c.loop-comp-test.true c.in-Some.ensures.answer in
-    let large : c.args.claimed < sum_by bits_of c.args.comps.now = omega (arith, step, c.in-default-checked-add.ensures) in
+    let large : c.args.claimed < sum_by bits_of c.args.comps.now = omega (arith, step, c.in_default-checked-add.ensures) in
     record { answer = larger_fails c.args.comps.now c.args.claimed large }
 
 pub loop-comp-preserved : goal.loop-comp-preserved

@@ -27,7 +27,7 @@ loop-j-preserved c =
     let j : ℕ = c.loop-j.j in
     let raw : ℕ = c.loop-j.raw in
     let byte : ℕ = get_or bs (from + j) 0 in
-    let b : byte < 256 = (c.type-inv.bytes (from + j)).fits in
+    let b : byte < 256 = (c.type_inv.bytes (from + j)).fits in
     let h : raw < 2 ^ (8 * j) = c.loop-j.invariant.0 in
     let l : j < 8 = c.loop-j-test.true in
     elim c.if-j-bytes.branch [

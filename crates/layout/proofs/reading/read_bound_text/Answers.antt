@@ -8,12 +8,12 @@ use Rattle.layout.specs.Reading.{reads, reserved}
 use Rattle.layout.proofs.Refusing.{first_fails}
 use Rattle.layout.proofs.reading.read_bound_text.Goals as goal
 
-pub returns-in-err-text : goal.returns-in-err-text
-returns-in-err-text c =
+pub returns-in_err-text : goal.returns-in_err-text
+returns-in_err-text c =
     let p = err_from_is_err_and c.from-residual.result c.from-residual.ensures.1 in
     let lists = lists_of c.args.texts.now in
     rw (p.1, p.2)
     (record {
-      refused = first_fails {A = Refusal} (reads lists c.args.list) (not (reserved c.args.fn-names.now (flattened lists c.args.list))) c.in-err-text.field-0.0 WrongText c.in-err-text.ensures.refused;
+      refused = first_fails {A = Refusal} (reads lists c.args.list) (not (reserved c.args.fn-names.now (flattened lists c.args.list))) c.in_err-text.field-0.0 WrongText c.in_err-text.ensures.refused;
       text = tt;
     })

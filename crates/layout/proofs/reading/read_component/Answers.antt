@@ -7,13 +7,13 @@ use Rattle.layout.specs.Reading.{bound_reads, variable_reads}
 use Rattle.layout.proofs.Refusing.{last_fails}
 use Rattle.layout.proofs.reading.read_component.Goals as goal
 
-pub returns-in-err-end : goal.returns-in-err-end
-returns-in-err-end c =
-    let p = err_from_is_err_and c.from-residual-in-err-end.result c.from-residual-in-err-end.ensures.1 in
+pub returns-in_err-end : goal.returns-in_err-end
+returns-in_err-end c =
+    let p = err_from_is_err_and c.from-residual-in_err-end.result c.from-residual-in_err-end.ensures.1 in
     let lists = lists_of c.args.texts.now in
     rw (p.1, p.2)
     (record {
       refused = last_fails {A = Refusal} (variable_reads lists (type_text c.args.component.c_type)) (bound_reads c.args.fn-names.now lists (bound_text c.args.component.range.start))
-          (bound_reads c.args.fn-names.now lists (bound_text c.args.component.range.end)) c.in-err-end.field-0.0 WrongText c.in-err-end.ensures.refused;
+          (bound_reads c.args.fn-names.now lists (bound_text c.args.component.range.end)) c.in_err-end.field-0.0 WrongText c.in_err-end.ensures.refused;
       texts = tt;
     })

@@ -7,8 +7,8 @@ use Rattle.pool.proofs.Firsts.{number_within}
 use Rattle.pool.proofs.Slots.{number_unknown}
 use Rattle.pool.proofs.find.find_in.Goals as goal
 
-pub seek-in-requires : goal.seek-in-requires
-seek-in-requires g c = let f = found_out c.requires.sound in record { ordered = f.ordered; reached = f.reached; own = c.requires.own }
+pub seek_in-requires : goal.seek_in-requires
+seek_in-requires g c = let f = found_out c.requires.sound in record { ordered = f.ordered; reached = f.reached; own = c.requires.own }
 
 pub returns-in-Ok : goal.returns-in-Ok
 returns-in-Ok g c =

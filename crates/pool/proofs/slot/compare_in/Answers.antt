@@ -2,8 +2,8 @@ use Rattle.std.proofs.Common.{sym, ap, ◌∙◌, arith}
 use Rattle.pool.proofs.Entries.{place_within, key_in_at}
 use Rattle.pool.proofs.slot.compare_in.Goals as goal
 
-pub offset-bounds-entries-number : goal.offset-bounds-entries-number
-offset-bounds-entries-number g c =
+pub offset_bounds-entries-number : goal.offset_bounds-entries-number
+offset_bounds-entries-number g c =
     omega (arith, place_within g.K.Key.meaning g.K.Key.order c.args.parts.now c.args.entries.now c.requires.ordered c.args.slot c.index-entries-slot.result c.requires.slot)
 
 pub bounds-entries-number : goal.bounds-entries-number

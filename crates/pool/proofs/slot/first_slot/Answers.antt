@@ -24,7 +24,7 @@ loop-low-preserved g c =
       omega arith,
       omega arith,
       c.loop-low.invariant.2,
-      (λ j d h. above_from g.K.Key.order g.met.K.Key.orders (keys_of g.K.Key.meaning c.args.parts.now c.args.entries.now) (places_of c.args.entries.now) c.requires.ordered (g.K.Key.meaning c.args.key.now c.args.own.now) mid d in' (λ e. c.in-default.not-Less (c.compare-in.ensures.order d ∙ e)) j d h),
+      (λ j d h. above_from g.K.Key.order g.met.K.Key.orders (keys_of g.K.Key.meaning c.args.parts.now c.args.entries.now) (places_of c.args.entries.now) c.requires.ordered (g.K.Key.meaning c.args.key.now c.args.own.now) mid d in' (λ e. c.in_default.not-Less (c.compare_in.ensures.order d ∙ e)) j d h),
     )
 
 pub returns : goal.returns

@@ -13,7 +13,7 @@ loop-item-preserved g c =
     let inside : to < length old = omega (arith, c.if-to-rest.false, c.before-comma-to.ensures.within) in
     let left : commas old ≡ commas (drop (to + 1) old) + 1
     = c.before-comma-to.ensures.rest ∙ cond-true (ltb to (length old)) (commas (drop (to + 1) old) + 1) 0 (lt-ltb to (length old) inside) in
-    let more : vec_len c.push.new.self ≡ vec_len c.loop-item.items + 1 = c.in-ok-push.ensures.len in (
+    let more : vec_len c.push.new.self ≡ vec_len c.loop-item.items + 1 = c.in_ok-push.ensures.len in (
       omega (arith, ap length e, length-drop (to + 1) old, c.loop-item.invariant.0),
       omega (arith, ap commas e, left, more, c.loop-item.invariant.1),
     )

@@ -4,22 +4,22 @@ use Rattle.workbench.specs.Numbers.{below, digit_worth, grow}
 use Rattle.workbench.proofs.Worths.{below_lt, worth_more, worth_stuck, worth_all}
 use Rattle.workbench.proofs.numbers.in_base.Goals as goal
 
-pub returns-in-err-value : goal.returns-in-err-value
-returns-in-err-value c =
+pub returns-in_err-value : goal.returns-in_err-value
+returns-in_err-value c =
     record {
       value =
           c.from-residual.ensures
           ∙ sym (worth_stuck c.args.base c.loop-byte.value c.args.digits.now c.loop-byte.byte-index
-          c.requires.base c.loop-byte-test.true c.loop-byte.invariant.1 (sym c.in-err-value.ensures.value));
+          c.requires.base c.loop-byte-test.true c.loop-byte.invariant.1 (sym c.in_err-value.ensures.value));
     }
 
 pub loop-byte-preserved : goal.loop-byte-preserved
 loop-byte-preserved c = (
   below_lt (2 ^ 64) (grow c.args.base c.loop-byte.value (below c.args.base (digit_worth (get_or c.args.digits.now c.loop-byte.byte-index 0))))
-      c.in-ok-value.value (sym c.in-ok-value.ensures.value),
+      c.in_ok-value.value (sym c.in_ok-value.ensures.value),
   c.loop-byte.invariant.1
-      ∙ worth_more c.args.base c.loop-byte.value c.in-ok-value.value c.args.digits.now c.loop-byte.byte-index
-      c.loop-byte-test.true (sym c.in-ok-value.ensures.value),
+      ∙ worth_more c.args.base c.loop-byte.value c.in_ok-value.value c.args.digits.now c.loop-byte.byte-index
+      c.loop-byte-test.true (sym c.in_ok-value.ensures.value),
 )
 
 pub returns-else-is-empty : goal.returns-else-is-empty

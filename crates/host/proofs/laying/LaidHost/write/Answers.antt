@@ -19,11 +19,11 @@ returns g c =
     let count : ℕ = c.args.count in
     let value : ℕ = c.args.value in
     let accepted : None ≡ part_refusal (width_at room spans name) offset count =
-    c.in-ok-at.ensures.refused
+    c.in_ok-at.ensures.refused
     ∙ ap (λ (x : Option Span). part_refusal (width_of (lies c.size.result x)) offset count) c.get.ensures.answer
     ∙ ap (λ (x : ℕ). part_refusal (width_at x spans name) offset count) c.size.ensures.room in
-    let at : c.in-ok-at.at ≡ place_in spans name offset =
-    c.in-ok-at.ensures.place.0 ∙ ap (λ (x : Option Span). start_of x + offset) c.get.ensures.answer in
+    let at : c.in_ok-at.at ≡ place_in spans name offset =
+    c.in_ok-at.ensures.place.0 ∙ ap (λ (x : Option Span). start_of x + offset) c.get.ensures.answer in
     let stored : (p : ℕ) → row' p ≡ cond (within (place_in spans name offset) count p) (bit value (p - place_in spans name offset)) (row p) =
     λ p. c.put.ensures.stored p ∙ ap (λ (x : ℕ). cond (within x count p) (bit value (p - x)) (row p)) at in
     record {

@@ -17,11 +17,11 @@ places v noting room ws l m h k =
 
 pub invariant-of-result : goal.invariant-of-result
 invariant-of-result c =
-    let v = c.in-ok-spans.spans in
+    let v = c.in_ok-spans.spans in
     let noting : List (Option Span) = c.lay.new.spans in
     let room : ℕ = c.args.room in
     let ws : List ℕ = c.args.widths.now in
-    let m : v.len ≡ length ws = c.in-ok-spans.ensures.len in
+    let m : v.len ≡ length ws = c.in_ok-spans.ensures.len in
     let l : length noting ≡ v.len = omega arith in
     let p = places v noting room ws l m (λ k h. c.lay.ensures.spans k (omega arith)) in (
       same_sound (with_items v noting).items (laid room 0 ws) p (laid_sound room 0 ws),
@@ -30,9 +30,9 @@ invariant-of-result c =
 
 pub returns : goal.returns
 returns c =
-    let v = c.in-ok-spans.spans in
+    let v = c.in_ok-spans.spans in
     let noting : List (Option Span) = c.lay.new.spans in
     let ws : List ℕ = c.args.widths.now in
-    let m : v.len ≡ length ws = c.in-ok-spans.ensures.len in
+    let m : v.len ≡ length ws = c.in_ok-spans.ensures.len in
     let l : length noting ≡ v.len = omega arith in
     record { spans = places v noting c.args.room ws l m (λ k h. c.lay.ensures.spans k (omega arith)) }

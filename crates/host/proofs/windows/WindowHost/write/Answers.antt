@@ -9,8 +9,8 @@ use Rattle.host.specs.SpanLaws.{in_part, lies_inside, part_accepted, part_inside
 use Rattle.host.proofs.windows.WindowHost.write.Goals as goal
 
 -- no part of what the table says
-pub returns-in-default : goal.returns-in-default
-returns-in-default g c =
+pub returns-in_default : goal.returns-in_default
+returns-in_default g c =
     let below = c.args.self.now.below in
     let shown : ℕ = c.args.self.now.name in
     let variable : Option ℕ = g.H.Host.widths below shown in
@@ -18,7 +18,7 @@ returns-in-default g c =
     record {
       refused = ap Some c.refusal.ensures.answer
           ∙ refused_there (size variable) (span_at spans c.args.name) c.get.result c.args.offset c.args.count c.get.ensures.answer
-          (size_below variable (λ w e. g.met.H.Host.width_range below shown w e)) c.in-default.ensures.place;
+          (size_below variable (λ w e. g.met.H.Host.width_range below shown w e)) c.in_default.ensures.place;
       bits = λ k i. refl;
       widths = λ k. refl;
       numbers = λ k. refl;

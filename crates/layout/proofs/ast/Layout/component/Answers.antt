@@ -47,19 +47,19 @@ pub returns : goal.returns
 returns c =
     let d = described c.args.self.now in
     let given = c.args.component in
-    let texts : map_component flat_text c.in-ok-spelled.spelled ≡ spelled d given = c.in-ok-spelled.ensures.texts in
+    let texts : map_component flat_text c.in_ok-spelled.spelled ≡ spelled d given = c.in_ok-spelled.ensures.texts in
     let names : names_of c.name-component-named.new.names ≡ with_names d given =
     c.name-component-named.ensures.names ∙ ap (names_after d.names) texts in
     let named : c.name-component-named.result ≡ map_component (name_of (with_names d given)) (spelled d given) =
     c.name-component-named.ensures.answer
-    ∙ ap (λ (ns : List (List ℕ)). map_component (name_of ns) (map_component flat_text c.in-ok-spelled.spelled)) names
+    ∙ ap (λ (ns : List (List ℕ)). map_component (name_of ns) (map_component flat_text c.in_ok-spelled.spelled)) names
     ∙ ap (map_component (name_of (with_names d given))) texts in
     record {
       refused = accepted (has_place d) (shape_answer (last_comps d) (length d.starts) given) (texts_answer c.args.fn-names.now d given) (sym c.if-not-has-place.ensures.answer)
-          (c.in-ok-check-shape.ensures.refused
+          (c.in_ok-check-shape.ensures.refused
           ∙ ap (λ (cs : List (Component PName)). shape_answer cs c.len.result given) c.last_comps.ensures.comps
           ∙ ap (λ (n : ℕ). shape_answer (last_comps d) n given) (c.len.ensures ∙ c.args.self.now.starts.ok.0))
-          c.in-ok-spelled.ensures.refused;
+          c.in_ok-spelled.ensures.refused;
       lists = refl;
       names = names;
       components = c.push-reserved.ensures.items ∙ ap (λ (x : Component PName). d.components ++ x ∷ []) named;

@@ -6,14 +6,14 @@ use Rattle.layout.specs.Reading.{component_reads, reversed}
 use Rattle.layout.proofs.Rooms.{texts_refuse}
 use Rattle.layout.proofs.ast.Layout.spelled.Goals as goal
 
-pub returns-in-err-spelled : goal.returns-in-err-spelled
-returns-in-err-spelled c =
+pub returns-in_err-spelled : goal.returns-in_err-spelled
+returns-in_err-spelled c =
     let p = err_from_is_err_and c.from-residual.result c.from-residual.ensures.1 in
     let d = described c.args.self.now in
     rw (p.1, p.2)
     (record {
       refused = texts_refuse (reversed d.lists c.args.component.range) (component_reads c.args.fn-names.now d.lists c.args.component) (names_fit (with_names d c.args.component))
-          c.in-err-spelled.field-0.0 (sym c.if-is-reversed.ensures.answer) c.in-err-spelled.ensures.refused;
+          c.in_err-spelled.field-0.0 (sym c.if-is-reversed.ensures.answer) c.in_err-spelled.ensures.refused;
       texts = tt;
       room = tt;
     })

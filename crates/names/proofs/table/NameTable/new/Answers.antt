@@ -6,12 +6,12 @@ use Rattle.names.specs.Names.{text_in, text_end}
 use Rattle.names.specs.Tables.{names_of}
 use Rattle.names.proofs.table.NameTable.new.Goals as goal
 
-pub returns-in-err-bytes : goal.returns-in-err-bytes
-returns-in-err-bytes c = record { empty = IfOk-from_err _ _ c.from-residual-in-err-bytes.ensures.0 }
+pub returns-in_err-bytes : goal.returns-in_err-bytes
+returns-in_err-bytes c = record { empty = IfOk-from_err _ _ c.from-residual-in_err-bytes.ensures.0 }
 
 pub invariant-of-result : goal.invariant-of-result
 invariant-of-result c =
-    (c.in-ok-entries.ensures.len, (c.in-ok-bytes.ensures.len, (omega arith, (omega arith, (none_sound by_word text_in text_end [], (refl, tt))))))
+    (c.in_ok-entries.ensures.len, (c.in_ok-bytes.ensures.len, (omega arith, (omega arith, (none_sound by_word text_in text_end [], (refl, tt))))))
 
 pub returns : goal.returns
 unfolding names_of

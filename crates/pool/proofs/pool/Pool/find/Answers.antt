@@ -5,8 +5,8 @@ use Rattle.pool.specs.Held.{keys_of, SoundIn}
 use Rattle.pool.specs.Pools.{entries_of}
 use Rattle.pool.proofs.pool.Pool.find.Goals as goal
 
-pub find-in-requires : goal.find-in-requires
-find-in-requires g c = record { sound = subst (λ es. SoundIn g.K.Key.order g.K.Key.meaning g.K.Key.reach c.args.parts.now es) (sym c.walk.ensures.entries) c.requires.sound; own = c.requires.own }
+pub find_in-requires : goal.find_in-requires
+find_in-requires g c = record { sound = subst (λ es. SoundIn g.K.Key.order g.K.Key.meaning g.K.Key.reach c.args.parts.now es) (sym c.walk.ensures.entries) c.requires.sound; own = c.requires.own }
 
 pub returns : goal.returns
 returns g c =
@@ -15,6 +15,6 @@ returns g c =
     let e = c.walk.ensures.entries in
     let long : length c.walk.result.now ≡ pool.used = ap length e ∙ length-take-le pool.used (entries_of pool) c.requires.fits.0 in
     record {
-      number = c.find-in.ensures.number ∙ ap (λ es. number_in g.K.Key.order (keys_of g.K.Key.meaning c.args.parts.now es) k) e;
-      within = subst (λ (l : ℕ). IfSome c.find-in.result (λ n. g.Number-as-Number.number n < l)) long c.find-in.ensures.within;
+      number = c.find_in.ensures.number ∙ ap (λ es. number_in g.K.Key.order (keys_of g.K.Key.meaning c.args.parts.now es) k) e;
+      within = subst (λ (l : ℕ). IfSome c.find_in.result (λ n. g.Number-as-Number.number n < l)) long c.find_in.ensures.within;
     }

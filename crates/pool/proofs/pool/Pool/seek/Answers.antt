@@ -5,8 +5,8 @@ use Rattle.pool.proofs.Entries.{lent_in_use}
 use Rattle.pool.proofs.Facts.{found_out}
 use Rattle.pool.proofs.pool.Pool.seek.Goals as goal
 
-pub seek-in-requires : goal.seek-in-requires
-seek-in-requires g c =
+pub seek_in-requires : goal.seek_in-requires
+seek_in-requires g c =
     let pool = c.args.self.now in
     let ps = c.args.parts.now in
     let f = found_out c.requires.sound in

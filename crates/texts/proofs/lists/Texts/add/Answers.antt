@@ -6,13 +6,13 @@ use Rattle.texts.specs.declared.token_tree.Item.{Item}
 use Rattle.texts.proofs.Inserted.{Grown, grown, taken_by_group, taken_by_text}
 use Rattle.texts.proofs.lists.Texts.add.Goals as goal
 
-pub invariant-of-self : goal.invariant-of-self
-invariant-of-self c =
+pub invariant_of-self : goal.invariant_of-self
+invariant_of-self c =
     let t = c.args.self.now in
     let item : Item = record { list = c.args.list; text = c.args.text } in
     let after : Grown (lists_of t) (vec_items c.insert.new.self) item =
-    grown t c.first-of-at.result item (vec_items c.insert.new.self) (is_ok c.insert.result) c.insert.ensures.items
-    (c.insert.ensures.succeeds (omega (arith, c.requires.room, t.room))) c.first-of-at.ensures.within c.first-of-at.ensures.before c.first-of-at.ensures.after c.requires.above in
+    grown t c.first_of-at.result item (vec_items c.insert.new.self) (is_ok c.insert.result) c.insert.ensures.items
+    (c.insert.ensures.succeeds (omega (arith, c.requires.room, t.room))) c.first_of-at.ensures.within c.first_of-at.ensures.before c.first_of-at.ensures.after c.requires.above in
     let child : ℕ = c.in-Group.child in
     let below : child < length t.taken =
     omega (arith, ltb-true child 256 (and_parts (ltb c.args.list child) (ltb child 256) (sym (ap (child_above c.args.list) c.in-Group.is) ∙ c.requires.above)).1, t.flags) in (
@@ -32,13 +32,13 @@ invariant-of-self c =
       ),
     )
 
-pub invariant-of-self-in-default : goal.invariant-of-self-in-default
-invariant-of-self-in-default c =
+pub invariant_of-self-in_default : goal.invariant_of-self-in_default
+invariant_of-self-in_default c =
     let t = c.args.self.now in
     let item : Item = record { list = c.args.list; text = c.args.text } in
     let after : Grown (lists_of t) (vec_items c.insert.new.self) item =
-    grown t c.first-of-at.result item (vec_items c.insert.new.self) (is_ok c.insert.result) c.insert.ensures.items
-    (c.insert.ensures.succeeds (omega (arith, c.requires.room, t.room))) c.first-of-at.ensures.within c.first-of-at.ensures.before c.first-of-at.ensures.after c.requires.above in (
+    grown t c.first_of-at.result item (vec_items c.insert.new.self) (is_ok c.insert.result) c.insert.ensures.items
+    (c.insert.ensures.succeeds (omega (arith, c.requires.room, t.room))) c.first_of-at.ensures.within c.first_of-at.ensures.before c.first_of-at.ensures.after c.requires.above in (
       omega (arith, c.insert.ensures.capacity, t.room),
       (
         omega (arith, c.insert.new.self.ok.0, after.added.count, t.items.ok.0, c.requires.room),
@@ -48,7 +48,7 @@ invariant-of-self-in-default c =
             after.above,
             (
               t.flags,
-              (taken_by_text t.taken (lists_of t) (vec_items c.insert.new.self) c.args.text c.in-default.field-0 c.in-default.is t.parents after.taken, tt),
+              (taken_by_text t.taken (lists_of t) (vec_items c.insert.new.self) c.args.text c.in_default.field-0 c.in_default.is t.parents after.taken, tt),
             ),
           ),
         ),
@@ -60,15 +60,15 @@ returns-in-Group c =
     let t = c.args.self.now in
     let item : Item = record { list = c.args.list; text = c.args.text } in
     let after : Grown (lists_of t) (vec_items c.insert.new.self) item =
-    grown t c.first-of-at.result item (vec_items c.insert.new.self) (is_ok c.insert.result) c.insert.ensures.items
-    (c.insert.ensures.succeeds (omega (arith, c.requires.room, t.room))) c.first-of-at.ensures.within c.first-of-at.ensures.before c.first-of-at.ensures.after c.requires.above in
+    grown t c.first_of-at.result item (vec_items c.insert.new.self) (is_ok c.insert.result) c.insert.ensures.items
+    (c.insert.ensures.succeeds (omega (arith, c.requires.room, t.room))) c.first_of-at.ensures.within c.first_of-at.ensures.before c.first_of-at.ensures.after c.requires.above in
     record { added = after.added }
 
-pub returns-in-default : goal.returns-in-default
-returns-in-default c =
+pub returns-in_default : goal.returns-in_default
+returns-in_default c =
     let t = c.args.self.now in
     let item : Item = record { list = c.args.list; text = c.args.text } in
     let after : Grown (lists_of t) (vec_items c.insert.new.self) item =
-    grown t c.first-of-at.result item (vec_items c.insert.new.self) (is_ok c.insert.result) c.insert.ensures.items
-    (c.insert.ensures.succeeds (omega (arith, c.requires.room, t.room))) c.first-of-at.ensures.within c.first-of-at.ensures.before c.first-of-at.ensures.after c.requires.above in
+    grown t c.first_of-at.result item (vec_items c.insert.new.self) (is_ok c.insert.result) c.insert.ensures.items
+    (c.insert.ensures.succeeds (omega (arith, c.requires.room, t.room))) c.first_of-at.ensures.within c.first_of-at.ensures.before c.first_of-at.ensures.after c.requires.above in
     record { added = after.added }
