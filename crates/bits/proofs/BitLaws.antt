@@ -1,10 +1,10 @@
 -- What each operation on numbers does to bit i.
-use Rattle.std.proofs.Common.{◌≡◌, ℕ, zero, suc, ◌+◌, ◌-◌, ◌*◌, ◌/◌, ◌%◌, ◌^◌, ◌<◌, ◌≤◌, min, max, Bool, true, false, cond, ◌&&◌, ltb, ◌⊎◌, sym, refl, ap, ◌∙◌, subst, ap₂, inl, inr, ⊎_elim, zero-le, lt_of_lt_of_le, add-zero, mod-lt, mod-eq_of_lt, zero-lt-suc, arith, pow_pos, pow_mono, shr-shr}
+use Rattle.std.proofs.Common.{◌≡◌, ℕ, zero, suc, ◌+◌, ◌-◌, ◌*◌, ◌/◌, ◌%◌, ◌^◌, ◌<◌, ◌≤◌, min, max, Bool, true, false, cond, ◌&&◌, ltb, ◌⊎◌, sym, refl, ap, ◌∙◌, subst, inl, inr, ⊎_elim, zero-le, lt_of_lt_of_le, add-zero, mod-lt, zero-lt-suc, arith, pow_pos, pow_mono, shr-shr}
 use Prim.Native.Nat.{differ}
 use native.Mathlib.Nat.{div-eq_of_lt}
 use lib.Bits.{bit_and, bit_or, bit_xor, and_step, or_step, xor_step, and_shr, or_shr, xor_shr}
 use lib.Arith.{digits_mod}
-use lib.Pow.{shl-shr, field, mod-mod-pow, high, low, ones_split, ones_lt}
+use lib.Pow.{field, mod-mod-pow, high, low, ones_split, ones_lt}
 use Rattle.std.proofs.lemmas.Bool.{lt-ltb, le-ltb, cases_lt, cond-true, cond-false}
 use Rattle.std.proofs.lemmas.Bool.Decides.{Decides-below_and}
 use Rattle.bits.specs.Bit.{bit, pair_bit}

@@ -1,4 +1,6 @@
 //! Bits of 64-bit words: taking a part out, putting one in, and turning each byte round.
+#![tactic(auto)]
+
 ghost use Rattle.std.specs.Prelude.{◌≡◌, ℕ, ◌+◌, ◌-◌, ◌<◌, ◌≤◌, if◌then◌else◌, nat_lt};
 ghost use Rattle.bits.specs.Bit.{bit, lower, mirror, neighbour, pair_bit, within};
 

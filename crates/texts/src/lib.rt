@@ -11,6 +11,7 @@
 //!     texts.flatten(0, &mut text)?;      // a[i]
 //!
 //! Items are kept sorted by list, so that a list is found by halving, and read in one go.
+#![tactic(auto)]
 
 mod adding;
 mod flat;

@@ -1,5 +1,5 @@
-use Rattle.std.proofs.Common.{◌≡◌, ℕ, ◌+◌, ◌/◌, ◌^◌, ◌<◌, min, ltb, sym, ap, ◌∙◌, subst, ap₂}
-use Rattle.bits.specs.Bit.{bit, pair_bit}
+use Rattle.std.proofs.Common.{ℕ, ◌+◌, ◌/◌, ◌^◌, ◌<◌, min, ltb, ◌∙◌, subst, ap₂}
+use Rattle.bits.specs.Bit.{pair_bit}
 use Rattle.bits.proofs.BitLaws.{bit-and, bit_shr, bit_below, masked}
 use Rattle.bits.proofs.part.Goals as goal
 

@@ -1,4 +1,4 @@
-use Rattle.std.proofs.Common.{◌≡◌, ℕ, ◌+◌, ◌-◌, ◌*◌, ◌/◌, ◌%◌, ◌^◌, ◌<◌, ◌≤◌, min, Bool, cond, ltb, sym, ap, ◌∙◌, subst, ap₂, ⊎_elim, arith, shl_lt, shl_exact, shr_lt}
+use Rattle.std.proofs.Common.{◌≡◌, ℕ, ◌+◌, ◌-◌, ◌*◌, ◌/◌, ◌%◌, ◌^◌, ◌<◌, ◌≤◌, min, Bool, cond, ltb, ap, ◌∙◌, ap₂, arith, shl_exact, shr_lt}
 use Prim.Native.Nat.{differ}
 use lib.Bits.{bit_and, bit_xor, and_le_r, and_mask, xor_lt}
 use Rattle.std.proofs.lemmas.Nat.{mod_below}

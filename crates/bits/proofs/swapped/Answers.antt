@@ -1,9 +1,9 @@
-use Rattle.std.proofs.Common.{◌≡◌, ℕ, ◌+◌, ◌-◌, ◌*◌, ◌/◌, ◌%◌, ◌^◌, ◌<◌, ◌≤◌, min, max, true, false, cond, ltb, sym, ap, ◌∙◌, subst, ap₂, ⊎_elim, add_comm, arith}
+use Rattle.std.proofs.Common.{◌≡◌, ℕ, ◌+◌, ◌-◌, ◌*◌, ◌/◌, ◌%◌, ◌^◌, ◌<◌, ◌≤◌, min, max, true, false, cond, ltb, sym, ap, ◌∙◌, ap₂, ⊎_elim, arith}
 use native.Mathlib.Nat.{div-eq_of_lt, div-eq-sub-div}
-use lib.Bits.{bit_and, bit_or}
+use lib.Bits.{bit_and}
 use Rattle.std.proofs.lemmas.Bool.{cases_Bool, cases_lt, cond-false, cond-true, eq-eqb, eqb-false, eqb-true, le-ltb, lt-ltb, ne_eqb}
 use Rattle.bits.specs.Bit.{bit, lower, neighbour}
-use Rattle.bits.proofs.BitLaws.{bit-and, bit_below, bit_mod, bit-or, bit_shl, bit_shr, masked}
+use Rattle.bits.proofs.BitLaws.{bit-and, bit_below, bit_mod, bit-or, bit_shl, bit_shr}
 use Rattle.bits.proofs.swapped.Goals as goal
 
 -- the bit that comes down from the neighbour above, or the one that comes up from below

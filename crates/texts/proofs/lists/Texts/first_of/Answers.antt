@@ -1,5 +1,4 @@
-use Rattle.std.proofs.Common.{◌≡◌, ℕ, ◌+◌, ◌-◌, ◌/◌, List, length, vec_items, vec_len, sym, arith}
-use Rattle.texts.specs.Tokens.{list_at}
+use Rattle.std.proofs.Common.{◌≡◌, ◌+◌, ◌-◌, ◌/◌, List, length, vec_items, vec_len, arith}
 use Rattle.texts.specs.declared.token_tree.Item.{Item}
 use Rattle.texts.proofs.Runs.{list_past, list_read, list_rises}
 use Rattle.texts.proofs.lists.Texts.first_of.Goals as goal

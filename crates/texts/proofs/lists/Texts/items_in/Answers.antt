@@ -1,4 +1,4 @@
-use Rattle.std.proofs.Common.{◌≡◌, ◌-◌, List, length, take, drop, vec_items, ap, ◌∙◌, arith}
+use Rattle.std.proofs.Common.{◌-◌, List, take, drop, vec_items, ap, ◌∙◌}
 use Rattle.texts.specs.declared.token_tree.Item.{Item}
 use Rattle.texts.proofs.Runs.{run_is, run_ordered}
 use Rattle.texts.proofs.lists.Texts.items_in.Goals as goal

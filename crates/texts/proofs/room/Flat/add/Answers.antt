@@ -1,4 +1,4 @@
-use Rattle.std.proofs.Common.{◌≡◌, ◌+◌, ◌-◌, ◌++◌, length, sym, ap, ◌∙◌, arith, rules}
+use Rattle.std.proofs.Common.{◌+◌, ◌-◌, ◌++◌, length, sym, ap, ◌∙◌, arith, rules}
 use Rattle.std.proofs.lemmas.Slice.{overwrites, take-put_mid}
 use Rattle.std.proofs.lemmas.Bool.{le-leb, lt-leb}
 use Rattle.texts.proofs.Flats.{flat_length}
@@ -6,7 +6,7 @@ use Rattle.texts.specs.Flats.{flat_text}
 use Rattle.texts.proofs.room.Flat.add.Goals as goal
 
 pub invariant_of-self : goal.invariant_of-self
-invariant_of-self c = (search (rules, overwrites), (omega arith, tt))
+invariant_of-self c = record { full = search (rules, overwrites); within = omega arith }
 
 pub returns : goal.returns
 returns c =

@@ -10,4 +10,4 @@ returns c =
     }
 
 pub invariant_of-result : goal.invariant_of-result
-invariant_of-result c = (search (rules, overwrites), (c.requires.short, tt))
+invariant_of-result c = record { full = search (rules, overwrites); within = c.requires.short }
