@@ -3,7 +3,7 @@ use std::alloc::{AllocError, AllocFailed};
 use std::io;
 use texts::Refusal;
 
-#[derive(Drop)]
+#[derive(Debug, Drop)]
 pub enum Fault {
     Output(io::Error),
     Memory,

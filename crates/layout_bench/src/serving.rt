@@ -38,12 +38,12 @@ pub fn say(rt: &HostRuntime, answer: Answer) -> io::Result<()> {
 }
 
 impl Table {
-    pub fn new(rt: &HostRuntime) -> Table {
-        Table {
-            input: BufReader::new(rt.stdin()),
+    pub fn new(rt: &HostRuntime) -> io::Result<Table> {
+        Ok(Table {
+            input: BufReader::new(rt.alloc(), rt.stdin())?,
             stands: None,
             settings: Settings::new(),
-        }
+        })
     }
 
     // Reads a line without its line feed; says whether there was one.

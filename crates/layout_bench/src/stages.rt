@@ -147,7 +147,7 @@ fn serve_start(rt: &HostRuntime, table: &mut Table) -> io::Result<Ending> {
 }
 
 pub fn run(rt: &HostRuntime) -> io::Result<()> {
-    let mut table = Table::new(rt);
+    let mut table = Table::new(rt)?;
     let mut ending = serve_none(rt, &mut table)?;
     for _ in 0..u64::MAX {
         ending = match ending {

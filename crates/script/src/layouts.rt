@@ -100,7 +100,7 @@ fn bound(word: &[u8]) -> Option<Usb<usize>> {
 // A bound, or `-` for none.
 fn parse_bound(line: &mut Line) -> Result<Option<Usb<usize>>, Misread> {
     let word = line.word()?;
-    if word == b"-" {
+    if word == b"-".as_slice() {
         return Ok(None);
     }
     let bound = bound(word).ok_or(Misread::Unreadable)?;
@@ -145,7 +145,7 @@ fn parse_component(line: &mut Line) -> Result<Build, Misread> {
 
 // A decimal, or `-` for none.
 fn optional(word: &[u8]) -> Result<Option<u64>, Misread> {
-    if word == b"-" {
+    if word == b"-".as_slice() {
         return Ok(None);
     }
     let number = numbers::decimal(word).ok_or(Misread::Unreadable)?;
