@@ -1,5 +1,5 @@
 -- What entries hold.
-use Rattle.std.specs.Prelude.{◌≡◌, ℕ, ◌<◌, ◌≤◌, Bool, true, false, ◌||◌, List, [], ◌∷◌, map, length, get_or, Some, Ok, Err, Result, ◌==◌, ◌≢◌, slice_index, slice_index_or}
+use Rattle.std.specs.Prelude.{◌≡◌, ℕ, ◌<◌, ◌≤◌, Bool, true, false, ◌||◌, List, [], ◌∷◌, map, length, slice_index_or, Some, Ok, Err, Result, ◌==◌, ◌≢◌, slice_index}
 use Rattle.std.specs.declared.cmp.Ordering.TheVariants.{Less, Greater}
 use Rattle.std.specs.declared.cmp.Ordering.{Ordering}
 use Rattle.pool.specs.Firsts.{number_in}
@@ -56,7 +56,7 @@ Sought order number keys places k (Err i) = (i ≤ length places) × Below order
 
 -- each key lies within so many parts
 abbrev pub Reached : {K M : Type 0} → (K → ℕ) → ℕ → List (Entry K M) → Type 0
-Reached {K} {M} reach n entries = (i : ℕ) (d : Entry K M) → i < length entries → reach (get_or entries i d).key ≤ n
+Reached {K} {M} reach n entries = (i : ℕ) (d : Entry K M) → i < length entries → reach (slice_index_or entries i d).key ≤ n
 
 -- what finding rests on: the slots are sorted, and the keys lie within the parts
 pub record FindableIn {K M P A : Type 0} (order : A → A → Ordering) (meaning : K → List P → A) (reach : K → ℕ) (parts : List P) (entries : List (Entry K M)) : Type 0 where

@@ -17,8 +17,8 @@ level Equal e = refl
 level Greater e = absurd (false≢true (ap is_lt e))
 
 -- a lawful order that answers `Equal` for equals alone
-orders_from : {A : Type 0} {R : A → A → Ordering → Type 0} (o : IsTotalOrder R) → ((x y : A) → R x y ≡ Equal → x ≡ y) → Orders R
-orders_from o same = record { flip = o.antisymm; chain = o.trans; itself = λ x. level (o.cmp x x) (o.antisymm x x); same = same }
+orders_from : {A : Type 0} {R : A → A → Ordering} (o : IsTotalOrder R) → ((x y : A) → R x y ≡ Equal → x ≡ y) → Orders R
+orders_from {R = R} o same = record { flip = o.antisymm; chain = o.trans; itself = λ x. level (R x x) (o.antisymm x x); same = same }
 
 same_number : (x y : ℕ) → by_number x y ≡ Equal → x ≡ y
 same_number x y e = subst (λ r. MatchOrdering r (x < y) (x ≡ y) (y < x)) e (ranks x y)

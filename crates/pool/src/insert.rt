@@ -62,7 +62,7 @@ impl<'a, K: Key, M: Copy> Pool<'a, K, M> {
         ensures series { (series : List K.Key.Meaning) → pool_keys K.Key.meaning parts.now self.old ≡ firsts K.Key.order series → pool_keys K.Key.meaning parts.now self.new ≡ firsts K.Key.order (series ++ K.Key.meaning key parts.now ∷ []) }
         ensures once { Once K.Key.order (pool_keys K.Key.meaning parts.now self.new) }
         ensures marks { pool_marks self.new ≡ (if known K.Key.order (pool_keys K.Key.meaning parts.now self.old) (K.Key.meaning key parts.now) then pool_marks self.old else pool_marks self.old ++ marks ∷ []) }
-        ensures used { self.new.used ≡ cond (known K.Key.order (pool_keys K.Key.meaning parts.now self.old) (K.Key.meaning key parts.now)) self.old.used (self.old.used + 1) }
+        ensures used { self.new.used ≡ (if known K.Key.order (pool_keys K.Key.meaning parts.now self.old) (K.Key.meaning key parts.now) then self.old.used else self.old.used + 1) }
         ensures grows { (self.old.used ≤ self.new.used) × (self.new.used ≤ self.old.used + 1) }
         ensures same { known K.Key.order (pool_keys K.Key.meaning parts.now self.old) (K.Key.meaning key parts.now) ≡ true → entries_of self.new ≡ entries_of self.old }
         ensures elsewhere { (i : ℕ) (d : AnEntry K M) → self.new.used ≤ i → slice_index_or (entries_of self.new) i d ≡ slice_index_or (entries_of self.old) i d }
@@ -98,7 +98,7 @@ impl<'a, K: Key, M: Copy> Pool<'a, K, M> {
         ensures series { (series : List K.Key.Meaning) → (pool_keys K.Key.meaning (stored parts.old) self.old) ≡ firsts K.Key.order series → (pool_keys K.Key.meaning (stored parts.new) self.new) ≡ firsts K.Key.order (series ++ (K.Key.meaning key own.now) ∷ []) }
         ensures once { Once K.Key.order (pool_keys K.Key.meaning (stored parts.new) self.new) }
         ensures marks { pool_marks self.new ≡ (if known K.Key.order (pool_keys K.Key.meaning (stored parts.old) self.old) (K.Key.meaning key own.now) then pool_marks self.old else pool_marks self.old ++ marks ∷ []) }
-        ensures used { self.new.used ≡ cond (known K.Key.order (pool_keys K.Key.meaning (stored parts.old) self.old) (K.Key.meaning key own.now)) self.old.used (self.old.used + 1) }
+        ensures used { self.new.used ≡ (if known K.Key.order (pool_keys K.Key.meaning (stored parts.old) self.old) (K.Key.meaning key own.now) then self.old.used else self.old.used + 1) }
         ensures grows { (self.old.used ≤ self.new.used) × (self.new.used ≤ self.old.used + 1) }
         ensures same { (known K.Key.order (pool_keys K.Key.meaning (stored parts.old) self.old) (K.Key.meaning key own.now)) ≡ true → entries_of self.new ≡ entries_of self.old }
         ensures elsewhere { (i : ℕ) (d : AnEntry K M) → self.new.used ≤ i → slice_index_or (entries_of self.new) i d ≡ slice_index_or (entries_of self.old) i d }

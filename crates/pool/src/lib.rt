@@ -14,6 +14,8 @@
 //! - `find` and `insert` compare about log2 of the entries times: entry n also holds the number of the key that has n smaller ones in the
 //!   pool. The insertion of an unknown key moves the numbers of the larger keys one entry up.
 //! - Room is the caller's matter: the insertion of an unknown key requires a free entry, and room for its parts where they are stored.
+#![tactic(auto)]
+
 mod entry;
 mod find;
 mod insert;

@@ -1,5 +1,5 @@
 // The marks of an entry.
-ghost use Rattle.std.specs.Prelude.{◌≡◌, ℕ, ◌<◌, List, length, get_or, ◌≢◌, slice_index_or, slice_set};
+ghost use Rattle.std.specs.Prelude.{◌≡◌, ℕ, ◌<◌, List, length, slice_index_or, ◌≢◌, slice_set};
 ghost use Rattle.pool.specs.declared.entry.Entry.{Entry as AnEntry};
 ghost use Rattle.pool.specs.Pools.{entries_of, Fits, pool_keys, pool_marks, Sound};
 
@@ -11,7 +11,7 @@ impl<'a, K: Key, M: Copy> Pool<'a, K, M> {
     pub fn marks(&self, number: K::Number) -> M
         requires fits { Fits self.now }
         requires used { K.Number.Number.number number < self.now.used }
-        ensures marks { (d : AnEntry K M) → result ≡ (get_or (entries_of self.now) (K.Number.Number.number number) d).marks }
+        ensures marks { (d : AnEntry K M) → result ≡ (slice_index_or (entries_of self.now) (K.Number.Number.number number) d).marks }
     {
         let at = number.index();
         let index = at as usize;

@@ -15,7 +15,7 @@ returns-in-Ok g c =
     let es = c.args.entries.now in
     let keys = keys_of g.K.Key.meaning c.args.parts.now es in
     let k = g.K.Key.meaning c.args.key c.args.own.now in
-    let n = g.Number-as-Number.number c.in-Ok.number in
+    let n = g.K.Number.Number.number c.in-Ok.number in
     let e : number_in g.K.Key.order keys k ≡ Some n = c.in-Ok.ensures.sought in
     record { number = sym e; within = omega (arith, number_within g.K.Key.order keys k n e, length_keys g.K.Key.meaning c.args.parts.now es) }
 

@@ -16,5 +16,5 @@ returns g c =
     let long : length c.walk.result.now ≡ pool.used = ap length e ∙ length-take-le pool.used (entries_of pool) c.requires.fits.0 in
     record {
       number = c.find_in.ensures.number ∙ ap (λ es. number_in g.K.Key.order (keys_of g.K.Key.meaning c.args.parts.now es) k) e;
-      within = subst (λ (l : ℕ). IfSome c.find_in.result (λ n. g.Number-as-Number.number n < l)) long c.find_in.ensures.within;
+      within = subst (λ (l : ℕ). IfSome c.find_in.result (λ n. g.K.Number.Number.number n < l)) long c.find_in.ensures.within;
     }

@@ -25,12 +25,12 @@ returns-in-Ok g c =
     let pool = c.args.self.now in
     let k = g.K.Key.meaning c.args.key c.args.parts.now in
     let keys = pool_keys g.K.Key.meaning c.args.parts.now pool in
-    let found : number_in g.K.Key.order keys k ≡ Some (g.Number-as-Number.number c.in-Ok.number) = c.in-Ok.ensures.sought in
-    let t : known g.K.Key.order keys k ≡ true = known_some g.K.Key.order keys k (g.Number-as-Number.number c.in-Ok.number) found in
+    let found : number_in g.K.Key.order keys k ≡ Some (g.K.Number.Number.number c.in-Ok.number) = c.in-Ok.ensures.sought in
+    let t : known g.K.Key.order keys k ≡ true = known_some g.K.Key.order keys k (g.K.Number.Number.number c.in-Ok.number) found in
     let with' = sym (with_known g.K.Key.order keys k t) in
     record {
       number = found;
-      within = omega (arith, number_within g.K.Key.order keys k (g.Number-as-Number.number c.in-Ok.number) found, long_keys pool c.requires.fits.0 g.K.Key.meaning c.args.parts.now);
+      within = omega (arith, number_within g.K.Key.order keys k (g.K.Number.Number.number c.in-Ok.number) found, long_keys pool c.requires.fits.0 g.K.Key.meaning c.args.parts.now);
       keys = with';
       series = series_more g.K.Key.order g.met.K.Key.orders keys keys k with';
       once = once g.K.Key.order g.met.K.Key.orders keys (places_of (in_use pool)) (found_out c.requires.sound).ordered;

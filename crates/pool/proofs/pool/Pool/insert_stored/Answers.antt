@@ -19,15 +19,15 @@ store-from-requires g c =
     let pool = c.args.self.now in
     let ps = stored c.args.parts.now in
     let k = g.K.Key.meaning c.args.key c.args.own.now in
-    let s : Sought g.K.Key.order g.Number-as-Number.number (pool_keys g.K.Key.meaning ps pool) (places_of (in_use pool)) k (Err c.in-Err.slot) = subst (λ l. Sought g.K.Key.order g.Number-as-Number.number (pool_keys g.K.Key.meaning l pool) (places_of (in_use pool)) k (Err c.in-Err.slot)) c.stored.ensures.stored c.in-Err.ensures.sought in
-    record { fits = c.requires.parts-fit; room = c.requires.parts-room (unknown g.K.Key.order g.met.K.Key.orders (pool_keys g.K.Key.meaning ps pool) (places_of (in_use pool)) (found_out c.requires.sound).ordered k c.in-Err.slot s.0 s.1 s.2) }
+    let s : Sought g.K.Key.order g.K.Number.Number.number (pool_keys g.K.Key.meaning ps pool) (places_of (in_use pool)) k (Err c.in-Err.slot) = subst (λ l. Sought g.K.Key.order g.K.Number.Number.number (pool_keys g.K.Key.meaning l pool) (places_of (in_use pool)) k (Err c.in-Err.slot)) c.stored.ensures.stored c.in-Err.ensures.sought in
+    record { fits = c.requires.parts_fit; room = c.requires.parts_room (unknown g.K.Key.order g.met.K.Key.orders (pool_keys g.K.Key.meaning ps pool) (places_of (in_use pool)) (found_out c.requires.sound).ordered k c.in-Err.slot s.0 s.1 s.2) }
 
 pub put-requires : goal.put-requires
 put-requires g c =
     let pool = c.args.self.now in
     let ps = stored c.args.parts.now in
     let k = g.K.Key.meaning c.args.key c.args.own.now in
-    let s : Sought g.K.Key.order g.Number-as-Number.number (pool_keys g.K.Key.meaning ps pool) (places_of (in_use pool)) k (Err c.in-Err.slot) = subst (λ l. Sought g.K.Key.order g.Number-as-Number.number (pool_keys g.K.Key.meaning l pool) (places_of (in_use pool)) k (Err c.in-Err.slot)) c.stored.ensures.stored c.in-Err.ensures.sought in
+    let s : Sought g.K.Key.order g.K.Number.Number.number (pool_keys g.K.Key.meaning ps pool) (places_of (in_use pool)) k (Err c.in-Err.slot) = subst (λ l. Sought g.K.Key.order g.K.Number.Number.number (pool_keys g.K.Key.meaning l pool) (places_of (in_use pool)) k (Err c.in-Err.slot)) c.stored.ensures.stored c.in-Err.ensures.sought in
     record {
       fits = c.requires.fits;
       slot = omega (arith, long_places pool c.requires.fits.0, s.0);
@@ -40,7 +40,7 @@ returns-in-Ok g c =
     let ps = stored c.args.parts.now in
     let k = g.K.Key.meaning c.args.key c.args.own.now in
     let keys = pool_keys g.K.Key.meaning ps pool in
-    let n = g.Number-as-Number.number c.in-Ok.known in
+    let n = g.K.Number.Number.number c.in-Ok.known in
     let found : number_in g.K.Key.order keys k ≡ Some n = subst (λ l. number_in g.K.Key.order (pool_keys g.K.Key.meaning l pool) k ≡ Some n) c.stored.ensures.stored c.in-Ok.ensures.sought in
     let t : known g.K.Key.order keys k ≡ true = known_some g.K.Key.order keys k n found in
     let with' = sym (with_known g.K.Key.order keys k t) in
@@ -60,13 +60,13 @@ returns-in-Ok g c =
       fits = c.requires.fits;
       sound = c.requires.sound;
       stored = sym (ap (λ (b : Bool). cond b ps (ps ++ c.args.own.now)) t);
-      parts-used = sym (ap (λ (b : Bool). cond b c.args.parts.now.used (c.args.parts.now.used + length c.args.own.now)) t);
-      parts-grows = omega arith;
+      parts_used = sym (ap (λ (b : Bool). cond b c.args.parts.now.used (c.args.parts.now.used + length c.args.own.now)) t);
+      parts_grows = omega arith;
       parts_same = λ _. refl;
-      parts-elsewhere = λ i d h. refl;
-      parts-long = refl;
-      parts-lent = refl;
-      parts-fit = c.requires.parts-fit;
+      parts_elsewhere = λ i d h. refl;
+      parts_long = refl;
+      parts_lent = refl;
+      parts_fit = c.requires.parts_fit;
     }
 
 pub returns-in-Err : goal.returns-in-Err
@@ -85,12 +85,12 @@ returns-in-Err g c =
     let slot = c.in-Err.slot in
     let key = c.moved-moved.result in
     let m = c.args.marks in
-    let s : Sought order g.Number-as-Number.number keys (places_of (in_use old)) k (Err slot) = subst (λ l. Sought order g.Number-as-Number.number (pool_keys meaning l old) (places_of (in_use old)) k (Err slot)) c.stored.ensures.stored c.in-Err.ensures.sought in
+    let s : Sought order g.K.Number.Number.number keys (places_of (in_use old)) k (Err slot) = subst (λ l. Sought order g.K.Number.Number.number (pool_keys meaning l old) (places_of (in_use old)) k (Err slot)) c.stored.ensures.stored c.in-Err.ensures.sought in
     let u : known order keys k ≡ false = unknown order laws keys (places_of (in_use old)) (found_out c.requires.sound).ordered k slot s.0 s.1 s.2 in
     let upto : slot ≤ old.used = omega (arith, long_places old c.requires.fits.0, s.0) in
     let room : old.used < length (entries_of old) = c.requires.room u in
     let q : stored parts' ≡ ps ++ own = c.store-from.ensures.stored in
-    let long : length ps ≡ parts.used = length-take-le parts.used (parts_of parts) c.requires.parts-fit.0 in
+    let long : length ps ≡ parts.used = length-take-le parts.used (parts_of parts) c.requires.parts_fit.0 in
     let means : meaning key (ps ++ own) ≡ k = c.moved-moved.ensures.meaning ps own (long ∙ sym c.store-from.ensures.from) c.requires.own in
     let far : g.K.Key.reach key ≤ length (ps ++ own) = omega (arith, c.moved-moved.ensures.reach, length-append ps own, long, c.store-from.ensures.from, c.requires.own) in
     let push : pool_keys meaning (stored parts') new ≡ keys ++ k ∷ [] = ap (λ l. pool_keys meaning l new) q ∙ stored_keys order meaning g.K.Key.reach g.met.K.Key.stays ps own laws slot key m k old new upto room c.put.ensures.used c.put.ensures.added means (found_out c.requires.sound) in
@@ -112,11 +112,11 @@ returns-in-Err g c =
       fits = c.put.ensures.fits;
       sound = ∣ sound ∣₁;
       stored = q ∙ sym (ap (λ (b : Bool). cond b ps (ps ++ own)) u);
-      parts-used = c.store-from.ensures.used ∙ sym (ap (λ (b : Bool). cond b parts.used (parts.used + length own)) u);
-      parts-grows = omega (arith, c.store-from.ensures.used);
+      parts_used = c.store-from.ensures.used ∙ sym (ap (λ (b : Bool). cond b parts.used (parts.used + length own)) u);
+      parts_grows = omega (arith, c.store-from.ensures.used);
       parts_same = λ t. absurd (both_ways (known order keys k) u t);
-      parts-elsewhere = c.store-from.ensures.elsewhere;
-      parts-long = c.store-from.ensures.long;
-      parts-lent = c.store-from.ensures.lent;
-      parts-fit = c.store-from.ensures.fits;
+      parts_elsewhere = c.store-from.ensures.elsewhere;
+      parts_long = c.store-from.ensures.long;
+      parts_lent = c.store-from.ensures.lent;
+      parts_fit = c.store-from.ensures.fits;
     }
