@@ -1,4 +1,6 @@
 //! Bounds, ranges and components, and what a concatenation of components may be claimed to be.
+#![tactic(auto)]
+
 mod component;
 mod concatenation;
 mod laws;

@@ -11,16 +11,16 @@ returns-in_default c =
     let stops = all_stops known_width c.args.comps.now c.loop-comp.comp-index c.loop-comp.invariant.0 _ c.loop-comp-test.true (sym (ap is_some c.in_default.ensures.answer)) in
     record { answer = unknown_fails c.args.comps.now c.args.claimed stops }
 
-pub returns-in_default-checked-add : goal.returns-in_default-checked-add
-returns-in_default-checked-add c =
+pub returns-in_default-checked_add : goal.returns-in_default-checked_add
+returns-in_default-checked_add c =
     let step = sum_further c.args.comps.now c.loop-comp.comp-index c.in-Some.width _ c.loop-comp-test.true c.in-Some.ensures.answer in
-    let large : c.args.claimed < sum_by bits_of c.args.comps.now = omega (arith, step, c.in_default-checked-add.ensures) in
+    let large : c.args.claimed < sum_by bits_of c.args.comps.now = omega (arith, step, c.in_default-checked_add.ensures) in
     record { answer = larger_fails c.args.comps.now c.args.claimed large }
 
 pub loop-comp-preserved : goal.loop-comp-preserved
 loop-comp-preserved c =
     let step = sum_further c.args.comps.now c.loop-comp.comp-index c.in-Some.width _ c.loop-comp-test.true c.in-Some.ensures.answer in
-    (all_further known_width c.args.comps.now c.loop-comp.comp-index c.loop-comp.invariant.0 _ c.loop-comp-test.true (sym (ap is_some c.in-Some.ensures.answer)), omega (arith, step, c.in-Some-checked-add.ensures.1))
+    (all_further known_width c.args.comps.now c.loop-comp.comp-index c.loop-comp.invariant.0 _ c.loop-comp-test.true (sym (ap is_some c.in-Some.ensures.answer)), omega (arith, step, c.in-Some-checked_add.ensures.1))
 
 pub returns-then-sum-claimed : goal.returns-then-sum-claimed
 returns-then-sum-claimed c =

@@ -5,5 +5,5 @@ use Rattle.components.proofs.concatenation.is_deterministic.Goals as goal
 
 pub returns : goal.returns
 returns g c = record {
-  answer = ap (λ n. eqb n (length c.args.comps.now)) c.first-unbounded-filler.ensures.answer ∙ leading_all unbounded_filler c.args.comps.now;
+  answer = ap (λ n. eqb n (length c.args.comps.now)) c.first_unbounded_filler.ensures.answer ∙ leading_all unbounded_filler c.args.comps.now;
 }
