@@ -5,7 +5,6 @@ use Rattle.std.proofs.lemmas.Bool.{and_from, and_parts, cases_Bool, cond-false, 
 use Rattle.std.specs.Option.{option_map}
 use Rattle.std.specs.Ordering.{is_eq}
 use Rattle.pool.specs.Firsts.{known, number_in, with_key}
-use Rattle.pool.specs.Order.{Orders}
 use Rattle.pool.specs.Words.{by_word}
 use Rattle.pool.specs.WordOrder.{word_orders}
 use Rattle.names.specs.Names.{total}

@@ -1,5 +1,5 @@
 -- Refusals that one of several tests gives.
-use Rattle.std.proofs.Common.{◌≡◌, ℕ, Bool, true, false, cond, ◌&&◌, Some, None, Option, sym, ◌∙◌, arith}
+use Rattle.std.proofs.Common.{◌≡◌, ℕ, Bool, true, false, cond, ◌&&◌, Some, None, arith}
 
 pub some_none : {A X : Type 0} (e : A) → Some e ≡ None → X
 some_none e h = let z : ◌≡◌ {A = ℕ} 0 1 = cc in absurd (omega arith)

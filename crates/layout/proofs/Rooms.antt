@@ -1,5 +1,5 @@
 -- Room for a component, and the answers that an accepted one gets.
-use Rattle.std.proofs.Common.{◌≡◌, ℕ, ◌+◌, ◌-◌, ◌*◌, ◌<◌, ◌≤◌, Bool, true, false, cond, not, ltb, length, Some, None, vec_items, vec_len, Option, sym, refl, ap, ◌∙◌, arith}
+use Rattle.std.proofs.Common.{◌≡◌, ℕ, ◌+◌, ◌*◌, ◌≤◌, Bool, true, false, cond, not, ltb, length, Some, None, vec_items, vec_len, Option, sym, ap, ◌∙◌, arith}
 use Rattle.std.proofs.lemmas.Bool.{and_parts, ltb-true}
 use Rattle.texts.specs.declared.refusals.Refusal.{Refusal}
 use Rattle.texts.specs.declared.refusals.Refusal.TheVariants.{NoRoomForPart, ReversedRange, WrongText, NamesFull}

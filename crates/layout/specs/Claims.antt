@@ -1,5 +1,5 @@
 -- What may be claimed of a layout when it is sealed.
-use Rattle.std.specs.Prelude.{ℕ, zero, suc, ◌+◌, Bool, true, false, cond, not, ◌&&◌, ◌||◌, ltb, List, [], ◌∷◌, ◌++◌, length, is_some, Some, None, Option, ◌==◌, nat_le, nat_lt, slice_index_or}
+use Rattle.std.specs.Prelude.{ℕ, zero, suc, Bool, true, false, cond, not, ◌&&◌, ◌||◌, ltb, List, [], ◌∷◌, ◌++◌, length, is_some, Some, None, Option, ◌==◌, nat_le, nat_lt, slice_index_or}
 use Rattle.names.specs.declared.numbers.PName.{PName}
 use Rattle.components.specs.Alignments.{alignment, number_of, overall}
 use Rattle.components.specs.Concatenations.{all_of, certainly_wide, deterministic, of_static_width, some_filler, some_of}

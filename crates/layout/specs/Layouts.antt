@@ -1,5 +1,5 @@
 -- A layout as its accepted calls gave it, and what each call answers and adds.
-use Rattle.std.specs.Prelude.{ℕ, ◌+◌, ◌-◌, Bool, true, false, cond, not, ◌&&◌, ◌||◌, List, [], ◌∷◌, ◌++◌, length, Some, None, vec_items, Option, nat_le, nat_lt}
+use Rattle.std.specs.Prelude.{ℕ, ◌-◌, Bool, cond, not, ◌&&◌, ◌||◌, List, [], ◌∷◌, ◌++◌, length, Some, None, vec_items, Option, nat_le, nat_lt}
 use Rattle.names.specs.Tables.{names_of}
 use Rattle.names.specs.declared.numbers.PName.{PName}
 use Rattle.components.specs.Concatenations.{deterministic}

@@ -1,12 +1,12 @@
 -- The names that a component brings.
-use Rattle.std.specs.Prelude.{ℕ, Bool, true, false, cond, not, ◌&&◌, List, length, Some, None, Option, nat_le}
+use Rattle.std.specs.Prelude.{ℕ, Bool, false, not, ◌&&◌, List, length, Some, None, Option, nat_le}
 use Rattle.std.specs.Ordering.{is_eq}
 use Rattle.pool.specs.Firsts.{known, number_in, with_key}
 use Rattle.pool.specs.Words.{by_word}
 use Rattle.names.specs.Names.{total}
 use Rattle.names.specs.declared.numbers.PName.{PName}
 use Rattle.components.specs.declared.component.Component.{Component}
-use Rattle.layout.specs.Mapping.{bound_text, map_component, type_text}
+use Rattle.layout.specs.Mapping.{bound_text, type_text}
 
 -- the names with one text more, if there is one and it is unknown
 abbrev pub with_text : List (List ℕ) → Option (List ℕ) → List (List ℕ)

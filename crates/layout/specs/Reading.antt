@@ -1,12 +1,11 @@
 -- Which texts a component may have.
-use Rattle.std.specs.Prelude.{ℕ, Bool, true, false, cond, not, ◌&&◌, ◌||◌, List, [], ◌∷◌, length, take, Some, None, Option, ◌==◌, int_le, nat_le, nat_lt, slice_index}
+use Rattle.std.specs.Prelude.{ℕ, Bool, true, false, not, ◌&&◌, ◌||◌, List, length, take, Some, None, Option, ◌==◌, int_le, nat_le, nat_lt, slice_index}
 use Rattle.std.specs.Ordering.{is_eq}
 use Rattle.pool.specs.Words.{by_word}
 use Rattle.components.specs.Concatenations.{all_of}
 use Rattle.components.specs.declared.ranges.Usb.{Usb}
 use Rattle.components.specs.declared.ranges.Usbr.{Usbr}
 use Rattle.components.specs.declared.component.Component.{Component}
-use Rattle.components.specs.declared.component.ComponentType.{ComponentType}
 use Rattle.texts.specs.Tokens.{flattened}
 use Rattle.texts.specs.declared.token_tree.Item.{Item}
 use Rattle.layout.specs.Mapping.{bound_text, type_text}

@@ -11,6 +11,8 @@
 //!     layout.check_seal(&claims)?;
 //!
 //! A component costs the bytes of its own texts, and about log2 of the names as many comparisons for each of them.
+#![tactic(auto)]
+
 mod ast;
 mod building;
 mod claims;

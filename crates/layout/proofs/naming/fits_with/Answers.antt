@@ -1,4 +1,4 @@
-use Rattle.std.proofs.Common.{◌≡◌, ℕ, Bool, cond, List, Option, sym, ap, ◌∙◌, arith}
+use Rattle.std.proofs.Common.{ℕ, Bool, cond, List, Option, ap, ◌∙◌, arith}
 use Rattle.std.specs.Option.{option_map}
 use Rattle.names.specs.Tables.{names_of}
 use Rattle.texts.specs.Flats.{flat_text}
@@ -20,18 +20,18 @@ returns c =
             c.with-two.ensures.names,
             c.with-one.ensures.names,
             c.len.ensures.count,
-            ap {B = ℕ} (λ (b : Bool). cond b 1 0) c.is-new.ensures.answer,
-            ap {B = ℕ} (λ (b : Bool). cond b 1 0) c.is-new-after.ensures.answer,
-            ap {B = ℕ} (λ (b : Bool). cond b 1 0) c.is-new-after-both.ensures.answer,
+            ap {B = ℕ} (λ (b : Bool). cond b 1 0) c.is_new.ensures.answer,
+            ap {B = ℕ} (λ (b : Bool). cond b 1 0) c.is_new_after.ensures.answer,
+            ap {B = ℕ} (λ (b : Bool). cond b 1 0) c.is_new_after_both.ensures.answer,
           ))
           (omega (
             arith,
             c.with-all.ensures.bytes,
             c.with-two.ensures.bytes,
             c.with-one.ensures.bytes,
-            c.bytes-len.ensures.count,
-            ap (λ (b : Bool). cond b (bytes_in first) 0) c.is-new.ensures.answer,
-            ap (λ (b : Bool). cond b (bytes_in second) 0) c.is-new-after.ensures.answer,
-            ap (λ (b : Bool). cond b (bytes_in third) 0) c.is-new-after-both.ensures.answer,
+            c.bytes_len.ensures.count,
+            ap (λ (b : Bool). cond b (bytes_in first) 0) c.is_new.ensures.answer,
+            ap (λ (b : Bool). cond b (bytes_in second) 0) c.is_new_after.ensures.answer,
+            ap (λ (b : Bool). cond b (bytes_in third) 0) c.is_new_after_both.ensures.answer,
           ));
     }

@@ -5,9 +5,8 @@ use Rattle.pool.specs.Words.{by_word}
 use Rattle.names.specs.Tables.{names_of}
 use Rattle.texts.specs.Flats.{flat_text}
 use Rattle.texts.specs.declared.room.Flat.{Flat}
-use Rattle.components.specs.declared.component.ComponentType.{ComponentType}
 use Rattle.components.specs.declared.ranges.Usb.{Usb}
-use Rattle.layout.specs.Mapping.{bound_text, map_bound, map_type, type_text}
+use Rattle.layout.specs.Mapping.{bound_text, map_bound}
 use Rattle.layout.specs.Naming.{names_fit, with_text}
 use Rattle.layout.proofs.NewNames.{room_for}
 use Rattle.layout.proofs.naming.name_bound.Goals as goal
@@ -15,10 +14,10 @@ use Rattle.layout.proofs.naming.name_bound.Goals as goal
 pub insert-requires : goal.insert-requires
 insert-requires c =
     let names : List (List ℕ) = names_of c.args.names.now in
-    let text : List ℕ = c.as-slice.result.now in
+    let text : List ℕ = c.as_slice.result.now in
     let fits : names_fit (with_key by_word names text) ≡ true =
-    ap (λ (x : List ℕ). names_fit (with_key by_word names x)) c.as-slice.ensures.text
+    ap (λ (x : List ℕ). names_fit (with_key by_word names x)) c.as_slice.ensures.text
     ∙ sym (ap (λ (o : Option Flat). names_fit (with_text names (option_map flat_text o))) (sym (ap (λ (b : Usb Flat). b.s) c.in-Some.field-0-is) ∙ c.in-Some-s.is))
     ∙ sym (ap (λ (o : Option (Usb Flat)). names_fit (with_text names (bound_text (option_map (map_bound flat_text) o)))) c.in-Some.is)
     ∙ c.requires.room in
-    record { short = omega (arith, c.as-slice.ensures.few); room = λ e. (room_for names text fits e).0; bytes_room = λ e. (room_for names text fits e).1 }
+    record { short = omega (arith, c.as_slice.ensures.few); room = λ e. (room_for names text fits e).0; bytes_room = λ e. (room_for names text fits e).1 }

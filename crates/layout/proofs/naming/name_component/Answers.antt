@@ -11,8 +11,8 @@ use Rattle.layout.specs.Naming.{name_of, names_fit, with_text}
 use Rattle.layout.proofs.NewNames.{bound_stays, fits_before, type_stays}
 use Rattle.layout.proofs.naming.name_component.Goals as goal
 
-pub name-type-c-type-requires : goal.name-type-c-type-requires
-name-type-c-type-requires c =
+pub name_type-c_type-requires : goal.name_type-c_type-requires
+name_type-c_type-requires c =
     let names : List (List ℕ) = names_of c.args.names.now in
     let t : ComponentType (List ℕ) = map_type flat_text c.args.component.now.c_type in
     let start : Option (Usb (List ℕ)) = option_map (map_bound flat_text) c.args.component.now.range.start in
@@ -21,14 +21,14 @@ name-type-c-type-requires c =
       room = fits_before (with_text names (type_text t)) (bound_text start) (fits_before (with_text (with_text names (type_text t)) (bound_text start)) (bound_text end) c.requires.room);
     }
 
-pub name-bound-start-requires : goal.name-bound-start-requires
-name-bound-start-requires c =
+pub name_bound-start-requires : goal.name_bound-start-requires
+name_bound-start-requires c =
     let names : List (List ℕ) = names_of c.args.names.now in
     let t : ComponentType (List ℕ) = map_type flat_text c.args.component.now.c_type in
     let start : Option (Usb (List ℕ)) = option_map (map_bound flat_text) c.args.component.now.range.start in
     let end : Option (Usb (List ℕ)) = option_map (map_bound flat_text) c.args.component.now.range.end in
     record {
-      room = ap (λ (ns : List (List ℕ)). names_fit (with_text ns (bound_text start))) c.name-type-c-type.ensures.names
+      room = ap (λ (ns : List (List ℕ)). names_fit (with_text ns (bound_text start))) c.name_type-c_type.ensures.names
           ∙ fits_before (with_text (with_text names (type_text t)) (bound_text start)) (bound_text end) c.requires.room;
     }
 
@@ -38,19 +38,19 @@ returns c =
     let t : ComponentType (List ℕ) = map_type flat_text c.args.component.now.c_type in
     let start : Option (Usb (List ℕ)) = option_map (map_bound flat_text) c.args.component.now.range.start in
     let end : Option (Usb (List ℕ)) = option_map (map_bound flat_text) c.args.component.now.range.end in
-    let one : names_of c.name-type-c-type.new.names ≡ with_text names (type_text t) = c.name-type-c-type.ensures.names in
-    let two : names_of c.name-bound-start.new.names ≡ with_text (with_text names (type_text t)) (bound_text start) =
-    c.name-bound-start.ensures.names ∙ ap (λ (ns : List (List ℕ)). with_text ns (bound_text start)) one in
-    let all : names_of c.name-bound-end.new.names ≡ with_text (with_text (with_text names (type_text t)) (bound_text start)) (bound_text end) =
-    c.name-bound-end.ensures.names ∙ ap (λ (ns : List (List ℕ)). with_text ns (bound_text end)) two in
-    let last : List (List ℕ) = names_of c.name-bound-end.new.names in
-    let type-is : c.name-type-c-type.result ≡ map_type (name_of last) t =
-    c.name-type-c-type.ensures.answer ∙ ap (λ (ns : List (List ℕ)). map_type (name_of ns) t) one ∙ type_stays names t (bound_text start) (bound_text end)
+    let one : names_of c.name_type-c_type.new.names ≡ with_text names (type_text t) = c.name_type-c_type.ensures.names in
+    let two : names_of c.name_bound-start.new.names ≡ with_text (with_text names (type_text t)) (bound_text start) =
+    c.name_bound-start.ensures.names ∙ ap (λ (ns : List (List ℕ)). with_text ns (bound_text start)) one in
+    let all : names_of c.name_bound-end.new.names ≡ with_text (with_text (with_text names (type_text t)) (bound_text start)) (bound_text end) =
+    c.name_bound-end.ensures.names ∙ ap (λ (ns : List (List ℕ)). with_text ns (bound_text end)) two in
+    let last : List (List ℕ) = names_of c.name_bound-end.new.names in
+    let type-is : c.name_type-c_type.result ≡ map_type (name_of last) t =
+    c.name_type-c_type.ensures.answer ∙ ap (λ (ns : List (List ℕ)). map_type (name_of ns) t) one ∙ type_stays names t (bound_text start) (bound_text end)
     ∙ ap (λ (ns : List (List ℕ)). map_type (name_of ns) t) (sym all) in
-    let start_is : c.name-bound-start.result ≡ option_map (map_bound (name_of last)) start =
-    c.name-bound-start.ensures.answer ∙ ap (λ (ns : List (List ℕ)). option_map (map_bound (name_of ns)) start) two ∙ bound_stays (with_text names (type_text t)) start (bound_text end)
+    let start_is : c.name_bound-start.result ≡ option_map (map_bound (name_of last)) start =
+    c.name_bound-start.ensures.answer ∙ ap (λ (ns : List (List ℕ)). option_map (map_bound (name_of ns)) start) two ∙ bound_stays (with_text names (type_text t)) start (bound_text end)
     ∙ ap (λ (ns : List (List ℕ)). option_map (map_bound (name_of ns)) start) (sym all) in
-    record { names = all; answer = made_of type-is start_is c.name-bound-end.ensures.answer }
+    record { names = all; answer = made_of type-is start_is c.name_bound-end.ensures.answer }
   where
     made_of : {a b : ComponentType PName} {p q u v : Option (Usb PName)} → a ≡ b → p ≡ q → u ≡ v
         → ◌≡◌ {A = Component PName} (record { c_type = a; range = record { start = p; end = u } }) (record { c_type = b; range = record { start = q; end = v } })

@@ -1,6 +1,4 @@
-use Rattle.std.proofs.Common.{◌≡◌, ℕ, ◌+◌, ◌<◌, Bool, true, false, not, ◌&&◌, eqb, ltb, List, [], ◌∷◌, ◌++◌, length, get_or, sym, ap, ◌∙◌, add-one, arith}
-use Rattle.names.specs.declared.numbers.PName.{PName}
-use Rattle.components.specs.declared.component.Component.{Component}
+use Rattle.std.proofs.Common.{◌≡◌, ℕ, sym, ap, ◌∙◌, add-one, arith}
 use Rattle.layout.specs.Layouts.{Described, comps_at, concats, described}
 use Rattle.components.specs.Alignments.{alignment, overall, together}
 use Rattle.components.specs.declared.concatenation.FillerAlign.{FillerAlign}
@@ -14,9 +12,9 @@ loop-k-preserved c =
     let n : ℕ = concats d in
     let k : ℕ = c.loop-k.k in
     let long : c.len-k-end.result ≡ n = c.len-k-end.ensures ∙ c.args.self.now.starts.ok.0 in
-    let here : c.filler-alignment.result ≡ alignment (comps_at d k) = c.filler-alignment.ensures.answer ∙ ap alignment c.comps-of.ensures.comps in
+    let here : c.filler_alignment.result ≡ alignment (comps_at d k) = c.filler_alignment.ensures.answer ∙ ap alignment c.comps_of.ensures.comps in
     c.with-align.ensures.answer
-    ∙ ap (λ (a : FillerAlign). together a c.filler-alignment.result) c.loop-k.invariant
+    ∙ ap (λ (a : FillerAlign). together a c.filler_alignment.result) c.loop-k.invariant
     ∙ ap (together (overall (alignments d k))) here
     ∙ sym (overall_more (alignments d k) (alignment (comps_at d k)))
     ∙ ap (λ (m : ℕ). overall (alignments d m)) (sym (add-one k))

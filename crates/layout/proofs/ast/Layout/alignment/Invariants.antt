@@ -1,7 +1,7 @@
-use Rattle.std.proofs.Common.{◌≡◌, ℕ, Bool, true, false, ltb, length, get_or}
+use Rattle.std.proofs.Common.{◌≡◌}
 use Rattle.components.specs.Alignments.{overall}
 use Rattle.layout.specs.Claims.{alignments}
-use Rattle.layout.specs.Layouts.{comps_at, described}
+use Rattle.layout.specs.Layouts.{described}
 use Rattle.layout.proofs.ast.Layout.alignment.Given as goal
 
 abbrev pub invariant-loop-k : goal.invariant-loop-k

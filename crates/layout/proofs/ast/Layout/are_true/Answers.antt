@@ -1,4 +1,4 @@
-use Rattle.std.proofs.Common.{◌≡◌, ℕ, ◌+◌, ◌<◌, Bool, true, false, not, ◌&&◌, eqb, ltb, List, [], ◌∷◌, ◌++◌, length, get_or, sym, ap, ◌∙◌, arith}
+use Rattle.std.proofs.Common.{◌≡◌, ℕ, ◌<◌, Bool, false, eqb, List, length, get_or, sym, ap, ◌∙◌, arith}
 use Rattle.names.specs.declared.numbers.PName.{PName}
 use Rattle.components.specs.declared.component.Component.{Component}
 use Rattle.layout.specs.Layouts.{Described, comps_at, concats, described}
@@ -8,8 +8,8 @@ use Rattle.layout.specs.declared.claims.ConcatClaim.{ConcatClaim}
 use Rattle.layout.proofs.Below.{every_step, every_stops}
 use Rattle.layout.proofs.ast.Layout.are_true.Goals as goal
 
-pub returns-then-not-is-true-of : goal.returns-then-not-is-true-of
-returns-then-not-is-true-of c =
+pub returns-then-not-is_true_of : goal.returns-then-not-is_true_of
+returns-then-not-is_true_of c =
     let d : Described = described c.args.self.now in
     let n : ℕ = concats d in
     let k : ℕ = c.loop-k.k in
@@ -18,7 +18,7 @@ returns-then-not-is-true-of c =
     let claims : List ConcatClaim = c.args.claims.now in
     let test : ℕ → Bool = λ i. concat_true (comps_at d i) (get_or claims i no_claim) in
     let untrue : test k ≡ false =
-    ap (λ (cs : List (Component PName)). concat_true cs (get_or claims k no_claim)) (sym c.comps-of.ensures.comps) ∙ sym c.if-not-is-true-of.ensures.answer in
+    ap (λ (cs : List (Component PName)). concat_true cs (get_or claims k no_claim)) (sym c.comps_of.ensures.comps) ∙ sym c.if-not-is_true_of.ensures.answer in
     record { answer = sym (and_right (eqb (length claims) n) (every_below test n) (every_stops test k n inside untrue)) }
 
 pub loop-k-preserved : goal.loop-k-preserved
@@ -30,7 +30,7 @@ loop-k-preserved c =
     let claims : List ConcatClaim = c.args.claims.now in
     let test : ℕ → Bool = λ i. concat_true (comps_at d i) (get_or claims i no_claim) in
     every_step test k c.loop-k.invariant
-    (ap (λ (cs : List (Component PName)). concat_true cs (get_or claims k no_claim)) (sym c.comps-of.ensures.comps) ∙ sym c.if-not-is-true-of.ensures.answer)
+    (ap (λ (cs : List (Component PName)). concat_true cs (get_or claims k no_claim)) (sym c.comps_of.ensures.comps) ∙ sym c.if-not-is_true_of.ensures.answer)
 
 pub returns : goal.returns
 returns c =

@@ -1,4 +1,4 @@
-use Rattle.std.proofs.Common.{◌≡◌, ℕ, Bool, true, false, ltb, length, get_or}
+use Rattle.std.proofs.Common.{◌≡◌, true, get_or}
 use Rattle.layout.specs.Claims.{concat_true, every_below, no_claim}
 use Rattle.layout.specs.Layouts.{comps_at, described}
 use Rattle.layout.proofs.ast.Layout.are_true.Given as goal

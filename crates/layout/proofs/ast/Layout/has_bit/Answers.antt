@@ -1,21 +1,19 @@
-use Rattle.std.proofs.Common.{◌≡◌, ℕ, ◌+◌, ◌<◌, Bool, true, false, not, ◌&&◌, eqb, ltb, List, [], ◌∷◌, ◌++◌, length, get_or, sym, ap, ◌∙◌, arith}
-use Rattle.names.specs.declared.numbers.PName.{PName}
-use Rattle.components.specs.declared.component.Component.{Component}
+use Rattle.std.proofs.Common.{◌≡◌, ℕ, ◌<◌, Bool, sym, ap, ◌∙◌, arith}
 use Rattle.layout.specs.Layouts.{Described, comps_at, concats, described}
 use Rattle.components.specs.Concatenations.{certainly_wide}
 use Rattle.layout.specs.Claims.{some_below}
 use Rattle.layout.proofs.Below.{some_step, some_stops}
 use Rattle.layout.proofs.ast.Layout.has_bit.Goals as goal
 
-pub returns-then-guaranteed-nonzero : goal.returns-then-guaranteed-nonzero
-returns-then-guaranteed-nonzero c =
+pub returns-then-guaranteed_nonzero : goal.returns-then-guaranteed_nonzero
+returns-then-guaranteed_nonzero c =
     let d : Described = described c.args.self.now in
     let n : ℕ = concats d in
     let k : ℕ = c.loop-k.k in
     let long : c.len-k-end.result ≡ n = c.len-k-end.ensures ∙ c.args.self.now.starts.ok.0 in
     let inside : k < n = omega (arith, long, c.loop-k-test.true) in
     let test : ℕ → Bool = λ i. certainly_wide (comps_at d i) in
-    record { answer = sym (some_stops test k n inside (ap certainly_wide (sym c.comps-of.ensures.comps) ∙ sym c.if-guaranteed-nonzero.ensures.answer)) }
+    record { answer = sym (some_stops test k n inside (ap certainly_wide (sym c.comps_of.ensures.comps) ∙ sym c.if-guaranteed_nonzero.ensures.answer)) }
 
 pub loop-k-preserved : goal.loop-k-preserved
 loop-k-preserved c =
@@ -24,7 +22,7 @@ loop-k-preserved c =
     let k : ℕ = c.loop-k.k in
     let long : c.len-k-end.result ≡ n = c.len-k-end.ensures ∙ c.args.self.now.starts.ok.0 in
     let test : ℕ → Bool = λ i. certainly_wide (comps_at d i) in
-    some_step test k c.loop-k.invariant (ap certainly_wide (sym c.comps-of.ensures.comps) ∙ sym c.if-guaranteed-nonzero.ensures.answer)
+    some_step test k c.loop-k.invariant (ap certainly_wide (sym c.comps_of.ensures.comps) ∙ sym c.if-guaranteed_nonzero.ensures.answer)
 
 pub returns : goal.returns
 returns c =

@@ -1,4 +1,4 @@
-use Rattle.std.proofs.Common.{◌≡◌, ℕ, Bool, true, false, ltb, length, get_or}
+use Rattle.std.proofs.Common.{◌≡◌, false}
 use Rattle.components.specs.Concatenations.{certainly_wide}
 use Rattle.layout.specs.Claims.{some_below}
 use Rattle.layout.specs.Layouts.{comps_at, described}

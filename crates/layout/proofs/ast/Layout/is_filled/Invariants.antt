@@ -1,4 +1,4 @@
-use Rattle.std.proofs.Common.{◌≡◌, ℕ, Bool, true, false, ltb, length, get_or}
+use Rattle.std.proofs.Common.{◌≡◌, true, ltb, length}
 use Rattle.layout.specs.Claims.{every_below}
 use Rattle.layout.specs.Layouts.{comps_at, described}
 use Rattle.layout.proofs.ast.Layout.is_filled.Given as goal

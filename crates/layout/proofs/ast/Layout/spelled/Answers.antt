@@ -8,12 +8,12 @@ use Rattle.layout.proofs.ast.Layout.spelled.Goals as goal
 
 pub returns-in_err-spelled : goal.returns-in_err-spelled
 returns-in_err-spelled c =
-    let p = err_from_is_err_and c.from-residual.result c.from-residual.ensures.1 in
+    let p = err_from_is_err_and c.from_residual.result c.from_residual.ensures.1 in
     let d = described c.args.self.now in
     rw (p.1, p.2)
     (record {
-      refused = texts_refuse (reversed d.lists c.args.component.range) (component_reads c.args.fn-names.now d.lists c.args.component) (names_fit (with_names d c.args.component))
-          c.in_err-spelled.field-0.0 (sym c.if-is-reversed.ensures.answer) c.in_err-spelled.ensures.refused;
+      refused = texts_refuse (reversed d.lists c.args.component.range) (component_reads c.args.fn_names.now d.lists c.args.component) (names_fit (with_names d c.args.component))
+          c.in_err-spelled.field-0.0 (sym c.if-is_reversed.ensures.answer) c.in_err-spelled.ensures.refused;
       texts = tt;
       room = tt;
     })
