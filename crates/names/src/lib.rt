@@ -8,6 +8,8 @@
 //! - The table owns its memory, which is made once: no later call can fail for want of it.
 //! - It has room for 256 names with 16,384 bytes together.
 //! - A name is found with about log2 of the names as many comparisons.
+#![tactic(auto)]
+
 mod intern;
 mod name;
 mod numbers;

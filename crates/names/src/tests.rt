@@ -21,8 +21,8 @@ fn the_front_of_a_name_is_another_name(rt: HostRuntime) -> Result<(), Fail> {
     let mut names = NameTable::new(rt.alloc())?;
     let wide = names.insert(b"wider");
     let front = names.insert(b"wide");
-    assert!(rt; names.text(wide) == b"wider");
-    assert!(rt; names.text(front) == b"wide");
+    assert!(rt; names.text(wide) == b"wider".as_slice());
+    assert!(rt; names.text(front) == b"wide".as_slice());
     assert_eq!(rt; names.find(b"wide"), Some(front));
     assert!(rt; names.find(b"wid").is_none());
     Ok(())

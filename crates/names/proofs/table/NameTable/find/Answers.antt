@@ -11,10 +11,10 @@ pub returns : goal.returns
 unfolding names_of
 returns c =
     let t = c.args.self.now in
-    let es = c.entries-in-use.ensures.entries in
-    let keys : keys_of text_in c.bytes-in-use.result.now c.entries-in-use.result.now ≡ names_of t = ap₂ (λ (l : List ℕ) m. keys_of text_in l m) c.bytes-in-use.ensures.bytes es in
-    let long : length c.entries-in-use.result.now ≡ length (names_of t) = ap length es ∙ entries_count t ∙ sym (names_count t) in
+    let es = c.entries_in_use.ensures.entries in
+    let keys : keys_of text_in c.bytes_in_use.result.now c.entries_in_use.result.now ≡ names_of t = ap₂ (λ (l : List ℕ) m. keys_of text_in l m) c.bytes_in_use.ensures.bytes es in
+    let long : length c.entries_in_use.result.now ≡ length (names_of t) = ap length es ∙ entries_count t ∙ sym (names_count t) in
     record {
-      number = c.find-in.ensures.number ∙ ap₂ (λ (l : List (List ℕ)) (k : List ℕ). number_in by_word l k) keys c.whole.ensures.text;
-      within = subst (λ (n : ℕ). IfSome c.find-in.result (λ m. m.0 < n)) long c.find-in.ensures.within;
+      number = c.find_in.ensures.number ∙ ap₂ (λ (l : List (List ℕ)) (k : List ℕ). number_in by_word l k) keys c.whole.ensures.text;
+      within = subst (λ (n : ℕ). IfSome c.find_in.result (λ m. m.0 < n)) long c.find_in.ensures.within;
     }

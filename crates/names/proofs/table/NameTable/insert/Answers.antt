@@ -9,37 +9,42 @@ use Rattle.names.proofs.table.NameTable.insert.Goals as goal
 pub intern-done-requires : goal.intern-done-requires
 intern-done-requires c =
     let t = c.args.self.now in
-    let es = c.deref-mut.ensures.value in
-    let bs = c.deref-mut-2.ensures.value in
-    let el = c.deref-mut.ensures.len in
-    let bl = c.deref-mut-2.ensures.len in
-    let k = ap (λ (l : List (List ℕ)). known by_word l c.args.text.now) (lent_names t c.deref-mut.result.now c.deref-mut-2.result.now es bs) in
+    let es = c.deref_mut.ensures.value in
+    let bs = c.deref_mut-2.ensures.value in
+    let el = c.deref_mut.ensures.len in
+    let bl = c.deref_mut-2.ensures.len in
+    let k = ap (λ (l : List (List ℕ)). known by_word l c.args.text.now) (lent_names t c.deref_mut.result.now c.deref_mut-2.result.now es bs) in
     record {
       entries_fit = (omega (arith, t.few, el, t.wide), omega (arith, el, t.wide));
       bytes_fit = (omega (arith, t.small, bl, t.long), omega (arith, bl, t.long));
-      sound = lent_sound t c.deref-mut.result.now c.deref-mut-2.result.now es bs;
+      sound = lent_sound t c.deref_mut.result.now c.deref_mut-2.result.now es bs;
       short = c.requires.short;
-      entries-room = λ u. omega (arith, c.requires.room (sym k ∙ u), names_count t, el, t.wide);
+      entries_room = λ u. omega (arith, c.requires.room (sym k ∙ u), names_count t, el, t.wide);
       bytes_room = λ u. omega (arith, c.requires.bytes_room (sym k ∙ u), names_total t, bl, t.long);
     }
 
-pub invariant-of-self : goal.invariant-of-self
-invariant-of-self c =
+pub invariant_of-self : goal.invariant_of-self
+invariant_of-self c =
     let t = c.args.self.now in
     let text = c.args.text.now in
     let r = c.intern-done.result in
-    let es = c.deref-mut.result.now in
+    let es = c.deref_mut.result.now in
     let fs = c.intern-done.new.entries in
-    let bs = c.deref-mut-2.result.now in
+    let bs = c.deref_mut-2.result.now in
     let cs = c.intern-done.new.bytes in
-    let e = c.deref-mut.ensures.value in
-    let b = c.deref-mut-2.ensures.value in
-    let fl = c.intern-done.auto.entries ∙ c.deref-mut.ensures.len in
-    let cl = c.intern-done.auto.bytes ∙ c.deref-mut-2.ensures.len in
-    let i = c.intern-done.ensures.inserted in (
-      t.wide,
-      (t.long, (after_few t text r es fs bs cs e b fl cl i, (after_small t text r es fs bs cs e b fl cl i, ((after t text r es fs bs cs e b fl cl i).sound, (after_counted t text r es fs bs cs e b fl cl i, tt))))),
-    )
+    let e = c.deref_mut.ensures.value in
+    let b = c.deref_mut-2.ensures.value in
+    let fl = c.intern-done.auto.entries ∙ c.deref_mut.ensures.len in
+    let cl = c.intern-done.auto.bytes ∙ c.deref_mut-2.ensures.len in
+    let i = c.intern-done.ensures.inserted in
+    record {
+      wide = t.wide;
+      long = t.long;
+      few = after_few t text r es fs bs cs e b fl cl i;
+      small = after_small t text r es fs bs cs e b fl cl i;
+      sound = (after t text r es fs bs cs e b fl cl i).sound;
+      counted = after_counted t text r es fs bs cs e b fl cl i;
+    }
 
 pub returns : goal.returns
 unfolding names_of
@@ -47,14 +52,14 @@ returns c =
     let t = c.args.self.now in
     let text = c.args.text.now in
     let r = c.intern-done.result in
-    let es = c.deref-mut.result.now in
+    let es = c.deref_mut.result.now in
     let fs = c.intern-done.new.entries in
-    let bs = c.deref-mut-2.result.now in
+    let bs = c.deref_mut-2.result.now in
     let cs = c.intern-done.new.bytes in
-    let e = c.deref-mut.ensures.value in
-    let b = c.deref-mut-2.ensures.value in
-    let fl = c.intern-done.auto.entries ∙ c.deref-mut.ensures.len in
-    let cl = c.intern-done.auto.bytes ∙ c.deref-mut-2.ensures.len in
+    let e = c.deref_mut.ensures.value in
+    let b = c.deref_mut-2.ensures.value in
+    let fl = c.intern-done.auto.entries ∙ c.deref_mut.ensures.len in
+    let cl = c.intern-done.auto.bytes ∙ c.deref_mut-2.ensures.len in
     let i = c.intern-done.ensures.inserted in
     let a = after t text r es fs bs cs e b fl cl i in
     record {
@@ -62,6 +67,6 @@ returns c =
       number = a.number;
       once = after_once t text r es fs bs cs e b fl cl i;
       grows = after_grows t text r es fs bs cs e b fl cl i;
-      bytes-grow = after_bytes t text r es fs bs cs e b fl cl i;
+      bytes_grow = after_bytes t text r es fs bs cs e b fl cl i;
       within = after_within t text r es fs bs cs e b fl cl i;
     }

@@ -7,11 +7,17 @@ use Rattle.names.specs.Tables.{names_of}
 use Rattle.names.proofs.table.NameTable.new.Goals as goal
 
 pub returns-in_err-bytes : goal.returns-in_err-bytes
-returns-in_err-bytes c = record { empty = IfOk-from_err _ _ c.from-residual-in_err-bytes.ensures.0 }
+returns-in_err-bytes c = record { empty = IfOk-from_err _ _ c.from_residual-in_err-bytes.ensures.0 }
 
-pub invariant-of-result : goal.invariant-of-result
-invariant-of-result c =
-    (c.in_ok-entries.ensures.len, (c.in_ok-bytes.ensures.len, (omega arith, (omega arith, (none_sound by_word text_in text_end [], (refl, tt))))))
+pub invariant_of-result : goal.invariant_of-result
+invariant_of-result c = record {
+  wide = c.in_ok-entries.ensures.len;
+  long = c.in_ok-bytes.ensures.len;
+  few = omega arith;
+  small = omega arith;
+  sound = none_sound by_word text_in text_end [];
+  counted = refl;
+}
 
 pub returns : goal.returns
 unfolding names_of
