@@ -1,8 +1,8 @@
 -- No two keys are spelled alike, so their orders obey the laws.
-use Rattle.std.specs.Prelude.{◌≡◌, ℕ, List, [], ◌∷◌, ◌++◌, ℤ, pos, negsuc, refl}
+use Rattle.std.specs.Prelude.{◌≡◌, ℕ, List, ◌++◌, ℤ, pos, negsuc, refl}
 use Rattle.std.specs.declared.cmp.Ordering.TheVariants.{Less, Equal, Greater}
 use Rattle.std.specs.declared.cmp.Ordering.{Ordering}
-use Rattle.std.proofs.Common.{sym, ap, ap₂, ◌∙◌, arith}
+use Rattle.std.proofs.Common.{sym, ap₂, arith}
 use Rattle.std.specs.Ordering.{ordering_then}
 use Rattle.pool.specs.Order.{Orders}
 use Rattle.pool.specs.Words.{by_number, by_word}

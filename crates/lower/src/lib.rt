@@ -1,4 +1,6 @@
 //! Lowering: the keys of its four pools, and the width call in a bound's text.
+#![tactic(auto)]
+
 mod binds;
 mod call;
 mod keys;

@@ -91,8 +91,8 @@ fn sums(rt: HostRuntime) {
 // The call's own length is cut, whatever it is; a text that does not end in it asks for nothing.
 #[test]
 fn width_calls(rt: HostRuntime) {
-    assert_eq!(rt; before_call(b"a.bw()", b".bw()"), Some(b"a"));
-    assert_eq!(rt; before_call(b"a.len()", b".len()"), Some(b"a"));
+    assert_eq!(rt; before_call(b"a.bw()", b".bw()"), Some(&b"a"[..]));
+    assert_eq!(rt; before_call(b"a.len()", b".len()"), Some(&b"a"[..]));
     assert_eq!(rt; before_call(b"a.bw", b".bw()"), None);
-    assert_eq!(rt; before_call(b".bw()", b".bw()"), Some(b""));
+    assert_eq!(rt; before_call(b".bw()", b".bw()"), Some(&b""[..]));
 }

@@ -9,7 +9,7 @@ ghost use Rattle.lower.specs.declared.keys.Base.TheVariants.{Nothing, Named, Ask
 ghost use Rattle.lower.specs.declared.keys.Value.TheVariants.{Bitwidth, Usize};
 
 use crate::keys::{Base, Value};
-use pool::{Key, Number, Number as _, PVal};
+use pool::{Key, Number, PVal};
 use std::cmp::Ordering;
 
 // A signed number as two: whether it is zero or more, and how far from zero or from -1.

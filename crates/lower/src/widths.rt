@@ -8,7 +8,7 @@ ghost use Rattle.pool.specs.WordOrder.{word_orders};
 ghost use Rattle.pool.specs.Stretches.{stretch_stays};
 
 use crate::keys::{CWidth, Width};
-use pool::{Key, Number, Number as _, PCWidth, PWidth};
+use pool::{Key, Number, PCWidth, PWidth};
 use std::cmp::Ordering;
 
 /// Ends alone come first, by end; the others by start and end.

@@ -1,4 +1,4 @@
-use Rattle.std.proofs.Common.{ℕ, ◌+◌, ◌≤◌, sym, ap, ◌∙◌, subst, arith}
+use Rattle.std.proofs.Common.{sym, ap, ◌∙◌, arith}
 use Rattle.lower.specs.Keys.{binding_of, binding_reach, variable}
 use Rattle.lower.specs.declared.keys.Bind.{Bind}
 use Rattle.lower.proofs.binds.BindKey.moved.Goals as goal
