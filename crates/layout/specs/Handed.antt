@@ -3,10 +3,10 @@ use Rattle.std.specs.Prelude.{ℕ, Bool, not, ◌&&◌, List, [], ◌∷◌, len
 use Rattle.components.specs.Concatenations.{all_of, some_of}
 use Rattle.texts.specs.Printable.{every_printable}
 use Rattle.layout.specs.Reading.{same_bytes}
-use Rattle.layout.specs.declared.names.Around.{Around}
-use Rattle.layout.specs.declared.names.CodeGen.{CodeGen}
-use Rattle.layout.specs.declared.names.FnNames.{FnNames}
-use Rattle.layout.specs.declared.names.Names.{Names}
+use Rattle.layout.specs.declared.handed_names.Around.{Around}
+use Rattle.layout.specs.declared.handed_names.CodeGen.{CodeGen}
+use Rattle.layout.specs.declared.handed_names.FnNames.{FnNames}
+use Rattle.layout.specs.declared.handed_names.Names.{Names}
 
 -- a text that stands around another: at most 64 printable bytes
 abbrev pub fits_around : List ℕ → Bool

@@ -17,7 +17,7 @@ use Rattle.layout.specs.Naming.{name_of, names_after, names_fit}
 use Rattle.layout.specs.Reading.{component_reads, reversed}
 use Rattle.layout.specs.Starts.{concat_at}
 use Rattle.layout.specs.declared.ast.Layout.{Layout}
-use Rattle.layout.specs.declared.names.FnNames.{FnNames}
+use Rattle.layout.specs.declared.handed_names.FnNames.{FnNames}
 
 -- its text lists, its names by number, its components, and where each concatenation begins among them
 pub record Described : Type 0 where

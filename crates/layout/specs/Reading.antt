@@ -9,7 +9,7 @@ use Rattle.components.specs.declared.component.Component.{Component}
 use Rattle.texts.specs.Tokens.{flattened}
 use Rattle.texts.specs.declared.token_tree.Item.{Item}
 use Rattle.layout.specs.Mapping.{bound_text, type_text}
-use Rattle.layout.specs.declared.names.FnNames.{FnNames}
+use Rattle.layout.specs.declared.handed_names.FnNames.{FnNames}
 
 -- one of the lists, with a text of 1 to 1,024 bytes
 abbrev pub reads : List Item → ℕ → Bool

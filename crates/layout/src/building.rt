@@ -10,7 +10,7 @@ ghost use Rattle.texts.specs.Lists.{Grouped, Written};
 ghost use Rattle.texts.specs.Refusals.{refusal};
 
 use crate::ast::Layout;
-use crate::names::FnNames;
+use crate::handed_names::FnNames;
 use crate::{naming, reading};
 use components::{Component, ComponentType};
 use names::{NameTable, PName};

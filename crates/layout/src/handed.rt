@@ -4,7 +4,7 @@ ghost use Rattle.layout.specs.Handed.{apart, around_handed, code_gen_handed, fit
 ghost use Rattle.layout.specs.Reading.{same_bytes};
 ghost use Rattle.std.specs.Prelude.{◌≡◌, [], ◌∷◌};
 
-use crate::names::{Around, CodeGen, FnNames, Names};
+use crate::handed_names::{Around, CodeGen, FnNames, Names};
 use std::cmp::Ordering;
 
 // Whether a text has at most 64 bytes, all printable.

@@ -17,7 +17,7 @@ mod ast;
 mod building;
 mod claims;
 mod handed;
-mod names;
+mod handed_names;
 mod naming;
 mod reading;
 mod room;
@@ -25,5 +25,5 @@ mod sealing;
 
 pub use ast::Layout;
 pub use claims::{Claims, ConcatClaim};
-pub use names::{AWINT_FN_NAMES, AWINT_NAMES, Around, CodeGen, FnNames, Names};
+pub use handed_names::{AWINT_FN_NAMES, AWINT_NAMES, Around, CodeGen, FnNames, Names};
 pub use room::Room;

@@ -9,7 +9,7 @@ ghost use Rattle.texts.specs.Texts.{lists_of};
 ghost use Rattle.texts.specs.Tokens.{flattened};
 ghost use Rattle.texts.specs.declared.refusals.Refusal.TheVariants.{WrongText};
 
-use crate::names::FnNames;
+use crate::handed_names::FnNames;
 use components::{Component, ComponentType, Usb, Usbr};
 use std::cmp::Ordering;
 use texts::{Flat, Refusal, Texts};

@@ -17,7 +17,7 @@ use Rattle.layout.specs.Layouts.{Described, spelled, with_names}
 use Rattle.layout.specs.Mapping.{bound_text, type_text}
 use Rattle.layout.specs.Naming.{with_text}
 use Rattle.layout.specs.Reading.{bound_reads, component_reads, reads, reserved, variable_reads}
-use Rattle.layout.specs.declared.names.FnNames.{FnNames}
+use Rattle.layout.specs.declared.handed_names.FnNames.{FnNames}
 use Rattle.layout.proofs.NewNames.{bound_text_mapped, type_text_mapped}
 use Rattle.layout_laws.specs.NamesOfLists.{NamesNeverRunOut, NamesOfLists, NamesStayTexts, TextOfAList}
 use Rattle.layout_laws.proofs.Pigeonhole.{few}

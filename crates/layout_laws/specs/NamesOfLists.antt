@@ -8,7 +8,7 @@ use Rattle.texts.specs.Tokens.{flattened}
 use Rattle.texts.specs.declared.token_tree.Item.{Item}
 use Rattle.layout.specs.Layouts.{Described, with_names}
 use Rattle.layout.specs.Reading.{component_reads}
-use Rattle.layout.specs.declared.names.FnNames.{FnNames}
+use Rattle.layout.specs.declared.handed_names.FnNames.{FnNames}
 
 -- the text is that of one of the 256 lists
 abbrev pub TextOfAList : List Item → List ℕ → Type 0

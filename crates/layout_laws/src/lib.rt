@@ -2,7 +2,7 @@
 //! its contract what holds.
 mod claims;
 mod growth;
-mod names;
+mod handed_names;
 
 pub use claims::full_claims_hold;
 pub use growth::{added_to_the_last, begun_empty};

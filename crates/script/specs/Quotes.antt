@@ -1,7 +1,6 @@
 -- Quoted strings.
-use Rattle.std.specs.Prelude.{ℕ, ◌+◌, ◌*◌, ◌%◌, Bool, cond, ◌||◌, List, [], ◌∷◌, ◌++◌, Some, None, Option, ◌==◌, nat_lt}
+use Rattle.std.specs.Prelude.{ℕ, ◌+◌, ◌*◌, ◌%◌, cond, ◌||◌, List, [], ◌∷◌, ◌++◌, Some, None, Option, ◌==◌, nat_lt}
 use Rattle.script.specs.Numbers.{digit_worth}
-use Rattle.script.specs.Words.{blank, after_blanks}
 use Rattle.script.specs.declared.quotes.Part.{Part}
 use Rattle.script.specs.declared.quotes.Part.TheVariants.{Plain, Escape, High, Low}
 use Rattle.script.specs.declared.quotes.Step.{Step}

@@ -1,4 +1,6 @@
 //! Scripts of the workbench: the commands that lines spell.
+#![tactic(auto)]
+
 mod commands;
 mod faults;
 mod hosts;

@@ -1,4 +1,4 @@
-use Rattle.std.proofs.Common.{◌≡◌, ◌^◌, ◌≤◌, leb, ℤ, pos, neg_ℤ, Some, None, sym, ap, ◌∙◌, arith}
+use Rattle.std.proofs.Common.{◌^◌, leb, ℤ, pos, neg_ℤ, Some, None, sym, ap, ◌∙◌, arith}
 use Rattle.std.proofs.lemmas.Int.{ints}
 use Rattle.std.proofs.lemmas.Bool.{cond-true, le-leb}
 use Rattle.script.proofs.numbers.negative.Goals as goal

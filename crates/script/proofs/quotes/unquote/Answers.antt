@@ -1,4 +1,4 @@
-use Rattle.std.proofs.Common.{◌≡◌, ℕ, ◌+◌, List, [], ◌∷◌, ◌++◌, drop, vec_items, sym, ap, ◌∙◌, arith}
+use Rattle.std.proofs.Common.{ℕ, ◌+◌, List, [], ◌∷◌, ◌++◌, drop, vec_items, sym, ap, ◌∙◌, arith}
 use Rattle.script.specs.Quotes.{quoted_from}
 use Rattle.script.specs.declared.quotes.Part.{Part}
 use Rattle.script.specs.declared.quotes.Step.TheVariants.{Close, Broken, On, Whole}
