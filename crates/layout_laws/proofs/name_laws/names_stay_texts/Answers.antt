@@ -1,5 +1,5 @@
 use Rattle.layout_laws.proofs.Named.{names_stay_texts}
-use Rattle.layout_laws.proofs.names.names_stay_texts.Goals as goal
+use Rattle.layout_laws.proofs.name_laws.names_stay_texts.Goals as goal
 
 pub returns : goal.returns
 returns c = record { law = names_stay_texts }
