@@ -1,5 +1,5 @@
 -- Whether a description may start.
-use Rattle.std.specs.Prelude.{ℕ, Bool, cond, ◌&&◌, length, Some, None, Option, nat_le}
+use Rattle.std.specs.Prelude.{Bool, cond, ◌&&◌, length, Some, None, Option, nat_le}
 use Rattle.layout.specs.Handed.{code_gen_handed, fn_names_handed, names_handed}
 use Rattle.texts.specs.declared.refusals.Refusal.{Refusal}
 use Rattle.texts.specs.declared.refusals.Refusal.TheVariants.{UnfitStart}

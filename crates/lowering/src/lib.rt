@@ -1,4 +1,6 @@
 //! Lowering: its stages.
+#![tactic(auto)]
+
 mod describing;
 mod entries;
 mod instruction;
