@@ -4,7 +4,7 @@ use host::Refusal;
 use std::alloc::{AllocError, AllocFailed};
 use std::io;
 
-#[derive(Drop)]
+#[derive(Debug, Drop)]
 pub enum Fault {
     Output(io::Error),
     Memory,

@@ -21,7 +21,7 @@ pub const FLAGS: [&str; 6] = [
 ];
 
 /// A field. Those up to the deck are always played; then comes a hand for each seat.
-#[derive(Clone, Copy, PartialEq, Eq)]
+#[derive(Clone, Copy, PartialEq, Eq, Debug)]
 pub enum Field {
     Chapter,
     Flags,

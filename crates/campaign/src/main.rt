@@ -1,4 +1,6 @@
 //! The demonstration: an evening of a cooperative game is packed into a code, and dealt again from it.
+#![tactic(auto)]
+
 mod codes;
 mod evening;
 mod faults;

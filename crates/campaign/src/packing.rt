@@ -8,7 +8,7 @@ use crate::fields::Field;
 use host::{Host, Reason, Refusal};
 
 /// A field that could not be carried over, and why.
-#[derive(Clone, Copy)]
+#[derive(Clone, Copy, Debug)]
 pub struct Stopped {
     pub field: Field,
     pub refusal: Refusal,

@@ -3,4 +3,3 @@ pub mod Parts
 pub mod Spans
 pub mod Rows
 pub mod Hosts
-pub mod SpanLaws

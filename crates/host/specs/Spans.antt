@@ -1,5 +1,6 @@
 -- Variables laid end to end in a row of bits.
-use Rattle.std.specs.Prelude.{◌≡◌, ℕ, ◌+◌, ◌-◌, ◌<◌, min, Bool, true, cond, ◌&&◌, List, [], ◌∷◌, Some, None, Option, nat_le, nat_lt, slice_index_or}
+use Rattle.std.specs.Prelude.{◌≡◌, ℕ, ◌+◌, ◌-◌, ◌<◌, min, Bool, true, false, cond, ◌&&◌, List, [], ◌∷◌, Some, None, Option, nat_le, nat_lt, slice_index_or}
+use Rattle.std.proofs.Common.{arith}
 use Rattle.host.specs.declared.spans.Span.{Span}
 
 -- whether a variable of this width has its place from `at` on, in a row of `room` bits
@@ -44,6 +45,12 @@ start_of (Some s) = s.start
 abbrev pub shown : Option Span → (ℕ → ℕ) → ℕ → ℕ
 shown None row i = 0
 shown (Some s) row i = cond (nat_lt i s.width) (row (s.start + i)) 0
+
+-- what a row shows is as small as the row's bits
+pub shown_below : (s : Option Span) (row : ℕ → ℕ) (i : ℕ) → ((p : ℕ) → row p < 2) → shown s row i < 2
+shown_below None row i h = omega arith
+shown_below (Some s) row i h =
+    elim (nat_lt i s.width) as (λ b. cond b (row (s.start + i)) 0 < 2) [ true ↦ h (s.start + i) | false ↦ omega arith ]
 
 -- the variables of a table, in a row of `room` bits: the width of variable k, and its bit i
 abbrev pub width_at : ℕ → List (Option Span) → ℕ → Option ℕ

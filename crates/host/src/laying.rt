@@ -4,9 +4,8 @@ ghost use Rattle.host.specs.Hosts.{place_in, spans_of};
 ghost use Rattle.host.specs.Parts.{Changed, Same, Written, number_at, part_refusal};
 ghost use Rattle.host.specs.Refusals.{refusal};
 ghost use Rattle.host.specs.Rows.{row_bit};
-ghost use Rattle.host.specs.Spans.{bit_at, laid, span_at, width_at, seen};
+ghost use Rattle.host.specs.Spans.{bit_at, laid, seen, shown_below, span_at, width_at};
 ghost use Rattle.bits.proofs.BitLaws.{bit_below};
-ghost use Rattle.host.specs.SpanLaws.{shown_below};
 ghost use Rattle.std.proofs.Common.{rules};
 
 use crate::interface::Host;

@@ -14,6 +14,8 @@
 //! Every call takes any input. Places are worked out once, when a host is made: a call then costs the same for
 //! the first name and the last, and touches at most two words or nine bytes. A window adds one look into its own
 //! table to a read or a write of the host below.
+#![tactic(auto)]
+
 mod in_bytes;
 mod in_words;
 mod interface;

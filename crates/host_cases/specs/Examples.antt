@@ -1,9 +1,9 @@
 -- Worked examples of the definitions that hosts are proved against: each side is computed.
-use Rattle.std.specs.Prelude.{◌≡◌, ℕ, List, [], ◌∷◌, Some, None, Option}
+use Rattle.std.specs.Prelude.{◌≡◌, ℕ, [], ◌∷◌, Some, None, Option}
 use Rattle.host.specs.Parts.{part_refusal}
 use Rattle.host.specs.Refusals.{plain}
 use Rattle.host.specs.Rows.{byte_bit, word_bit}
-use Rattle.host.specs.Spans.{laid, lies, shown, span_at}
+use Rattle.host.specs.Spans.{laid, lies, shown}
 use Rattle.host.specs.declared.reasons.Reason.TheVariants.{NoSuchName, PartOutside}
 use Rattle.host.specs.declared.spans.Span.{Span}
 

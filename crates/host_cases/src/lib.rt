@@ -1,5 +1,7 @@
 //! Worked examples of hosts and windows, worked out by hand from the rules: of the definitions, as contracts, and of
 //! the calls, as tests.
+#![tactic(auto)]
+
 mod examples;
 
 pub use examples::{laid_in_a_word, parts_of_seventy, places, shown, widest};

@@ -1,4 +1,6 @@
 //! Times reads and writes of a variable of 65,536 bits, in parts of 64 bits at odd offsets, for tools/bench.
+#![tactic(auto)]
+
 use host::{Host, Laid, PackedBytes, Window, Words};
 use std::alloc::AllocError;
 use std::env;

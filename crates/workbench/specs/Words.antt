@@ -1,5 +1,5 @@
 -- Words of a line.
-use Rattle.std.specs.Prelude.{ℕ, ◌+◌, Bool, cond, ◌||◌, List, [], ◌∷◌, length, Some, None, Option, ◌==◌}
+use Rattle.std.specs.Prelude.{ℕ, ◌+◌, Bool, cond, ◌||◌, List, [], ◌∷◌, Some, None, Option, ◌==◌}
 
 -- a blank: a space, a tab, or the carriage return before a line feed
 abbrev pub blank : ℕ → Bool

@@ -58,7 +58,7 @@ pub fn items<T: Item + Drop>(heap: Global, word: &[u8]) -> Result<Vec<T>, Misrea
     ensures len { IfOk result (λ v. vec_len v ≤ commas word.now + 1) }
 {
     let mut items = Vec::new(heap);
-    if word == b"-" {
+    if word == b"-".as_slice() {
         return Ok(items);
     }
     let mut rest = word;
@@ -80,7 +80,7 @@ pub fn bytes(heap: Global, word: &[u8]) -> Result<Vec<u8>, Misread>
     ensures len { IfOk result (λ v. 2 * vec_len v ≤ length word.now) }
 {
     let mut bytes = Vec::new(heap);
-    if word == b"-" {
+    if word == b"-".as_slice() {
         return Ok(bytes);
     }
     if word.len() % 2 != 0 {

@@ -8,7 +8,7 @@ use Rattle.campaign.proofs.packing.pack.Goals as goal
 
 pub loop-field-preserved : goal.loop-field-preserved
 loop-field-preserved g c = (
-  λ k. c.copy-field.ensures.widths k ∙ c.loop-field.invariant.0 k,
+  λ k. c.copy_field.ensures.widths k ∙ c.loop-field.invariant.0 k,
   λ k i.
       let e : c.name.result ≡ name_of (get_or c.args.fields.now c.loop-field.field-index Chapter) = search rules in
       let m : named k (take (c.loop-field.field-index + 1) c.args.fields.now) ≡ (named k (take c.loop-field.field-index c.args.fields.now) || eqb k c.name.result)
@@ -16,7 +16,7 @@ loop-field-preserved g c = (
       ∙ ap (λ (n : ℕ). named k (take c.loop-field.field-index c.args.fields.now) || eqb k n) (sym e) in
       carried_more k c.name.result i (named k (take c.loop-field.field-index c.args.fields.now))
       (λ n. g.S.Host.bits c.args.from.now n i) (λ n. size (g.S.Host.widths c.args.from.now n))
-      (g.T.Host.bits c.args.to.now k i) (g.T.Host.bits c.loop-field.to k i) (g.T.Host.bits c.copy-field.new.to k i)
+      (g.T.Host.bits c.args.to.now k i) (g.T.Host.bits c.loop-field.to k i) (g.T.Host.bits c.copy_field.new.to k i)
       (c.in_default.ensures.bits k i) (c.loop-field.invariant.1 k i)
       ∙ ap (λ (b : Bool). cond (b && ltb i (size (g.S.Host.widths c.args.from.now k))) (g.S.Host.bits c.args.from.now k i) (g.T.Host.bits c.args.to.now k i)) (sym m),
 )

@@ -1,11 +1,10 @@
-use Rattle.std.proofs.Common.{◌≡◌, ℕ, ◌+◌, ◌-◌, ◌*◌, ◌/◌, ◌%◌, ◌^◌, ◌<◌, ◌≤◌, cond, ltb, List, length, get_or, sym, ap, ◌∙◌, subst, ap₂, ⊎_elim, lt_of_lt_of_le, arith, pow_mono, pow-add, shl_exact}
+use Rattle.std.proofs.Common.{◌≡◌, ℕ, ◌+◌, ◌-◌, ◌*◌, ◌/◌, ◌%◌, ◌^◌, ◌<◌, ◌≤◌, ltb, List, length, get_or, sym, ap, ◌∙◌, subst, ap₂, ⊎_elim, lt_of_lt_of_le, arith, pow_mono, pow-add, shl_exact}
 use lib.Bits.{bit_or, or_shifted_r}
 use lib.Arith.{digits_lt}
 use Rattle.std.proofs.lemmas.List.{get_or_past}
 use Rattle.std.proofs.lemmas.Bool.{cases_lt, cond-false, cond-true, le-ltb, lt-ltb}
 use Rattle.bits.specs.Bit.{bit, mirror}
 use Rattle.bits.proofs.BitLaws.{bit_join, bit_past}
-use Rattle.host.specs.Rows.{byte_bit}
 use Rattle.host.proofs.RowLaws.{byte_at}
 use Rattle.host.proofs.in_bytes.load.Goals as goal
 use Rattle.host.proofs.in_bytes.load.Goals.{then-j-bytes, else-j-bytes}

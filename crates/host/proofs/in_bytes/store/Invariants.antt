@@ -1,5 +1,5 @@
 -- The bytes so far hold their eight places of `raw`; the others are as they were.
-use Rattle.std.proofs.Common.{◌≡◌, ℕ, ◌+◌, ◌-◌, ◌*◌, ◌/◌, ◌%◌, ◌^◌, ◌<◌, cond, length, get_or}
+use Rattle.std.proofs.Common.{◌≡◌, ℕ, ◌-◌, ◌*◌, ◌/◌, ◌%◌, ◌^◌, ◌<◌, cond, length, get_or}
 use Rattle.bits.specs.Bit.{within}
 use Rattle.host.proofs.in_bytes.store.Given as goal
 

@@ -1,5 +1,5 @@
 use Rattle.host.specs.Parts.{size}
-use Rattle.host.specs.SpanLaws.{places_apart}
+use Rattle.host.proofs.SpanLaws.{places_apart}
 use Rattle.host.proofs.laws.apart_in_window.Goals as goal
 
 pub returns : goal.returns

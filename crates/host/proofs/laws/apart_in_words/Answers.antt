@@ -1,7 +1,7 @@
-use Rattle.std.proofs.Common.{◌/◌, ◌%◌, arith}
-use Rattle.host.specs.Hosts.{place_in, spans_of}
+use Rattle.std.proofs.Common.{arith}
+use Rattle.host.specs.Hosts.{spans_of}
 use Rattle.host.specs.Rows.{words_room}
-use Rattle.host.specs.SpanLaws.{places_apart}
+use Rattle.host.proofs.SpanLaws.{places_apart}
 use Rattle.host.proofs.laws.apart_in_words.Goals as goal
 
 pub returns : goal.returns

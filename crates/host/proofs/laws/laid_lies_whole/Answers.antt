@@ -1,4 +1,4 @@
-use Rattle.host.specs.SpanLaws.{laid_whole}
+use Rattle.host.proofs.SpanLaws.{laid_whole}
 use Rattle.host.proofs.laws.laid_lies_whole.Goals as goal
 
 pub returns : goal.returns

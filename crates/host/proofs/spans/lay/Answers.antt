@@ -1,10 +1,10 @@
-use Rattle.std.proofs.Common.{◌≡◌, ℕ, suc, ◌+◌, ◌<◌, ◌≤◌, cond, ◌≢◌, List, length, get_or, drop, set, is_some, None, sym, ap, ◌∙◌, subst, arith, rules, below_more}
+use Rattle.std.proofs.Common.{◌≡◌, ℕ, suc, ◌+◌, ◌<◌, ◌≤◌, cond, ◌≢◌, List, length, get_or, drop, set, is_some, None, sym, ap, ◌∙◌, subst, arith, below_more}
 use Rattle.std.proofs.lemmas.List.{get_or_past, get_or-set_same, get_or-set_other}
 use Rattle.std.proofs.lemmas.Bool.{cond-true, cond-false}
 use Rattle.host.specs.Spans.{fits, laid, placed, span_at}
-use Rattle.host.specs.SpanLaws.{is_some_placed, laid_head, laid_rest, taken}
+use Rattle.host.proofs.SpanLaws.{is_some_placed, laid_head, laid_rest, taken}
 use Rattle.host.proofs.spans.lay.Goals as goal
-use Rattle.host.proofs.spans.lay.Goals.{then-i-widths, else-i-widths, then-is-some, else-is-some}
+use Rattle.host.proofs.spans.lay.Goals.{then-i-widths, else-i-widths, then-is_some, else-is_some}
 
 pub loop-i-preserved : goal.loop-i-preserved
 loop-i-preserved c =
@@ -15,14 +15,14 @@ loop-i-preserved c =
     let w : ℕ = c.if-i-widths.width in
     let e : w ≡ get_or ws i 0 =
     elim c.if-i-widths.branch
-    [ then-i-widths v ↦ v.width_is | else-i-widths v ↦ v.width_is ∙ sym (get_or_past ws i 0 v.if-i-widths.false) ] in
-    let s : c.is-some.result ≡ fits room at w = c.is-some.ensures ∙ ap is_some c.place-span.ensures.answer ∙ is_some_placed room at w in
-    let a : c.if-is-some.at ≡ at + cond (fits room at w) w 0 =
-    elim c.if-is-some.branch [
-      | then-is-some v ↦ v.at-is ∙ ap (λ (x : ℕ). at + x) (sym (cond-true (fits room at w) w 0 (sym s ∙ v.if-is-some.true)))
-      | else-is-some v ↦ v.at-is ∙ omega (arith, cond-false (fits room at w) w 0 (sym s ∙ v.if-is-some.false))
+    [ then-i-widths v ↦ v.width-is | else-i-widths v ↦ v.width-is ∙ sym (get_or_past ws i 0 v.if-i-widths.false) ] in
+    let s : c.is_some.result ≡ fits room at w = c.is_some.ensures ∙ ap is_some c.place-span.ensures.answer ∙ is_some_placed room at w in
+    let a : c.if-is_some.at ≡ at + cond (fits room at w) w 0 =
+    elim c.if-is_some.branch [
+      | then-is_some v ↦ v.at-is ∙ ap (λ (x : ℕ). at + x) (sym (cond-true (fits room at w) w 0 (sym s ∙ v.if-is_some.true)))
+      | else-is_some v ↦ v.at-is ∙ omega (arith, cond-false (fits room at w) w 0 (sym s ∙ v.if-is_some.false))
     ] in
-    let b : c.if-is-some.at ≡ at + cond (fits room at (get_or ws i 0)) (get_or ws i 0) 0 =
+    let b : c.if-is_some.at ≡ at + cond (fits room at (get_or ws i 0)) (get_or ws i 0) 0 =
     a ∙ ap (λ (x : ℕ). at + cond (fits room at x) x 0) e in
     let lt : i < length c.loop-i.spans = omega arith in (
       subst (λ (x : ℕ). x ≤ room) (sym a) (taken room at w c.loop-i.invariant.0),

@@ -4,9 +4,9 @@ use Rattle.workbench.specs.Words.{past}
 use Rattle.workbench.proofs.Splitting.{front_more, front_end, front_all, past_more, past_end}
 use Rattle.workbench.proofs.lines.unbroken.Goals as goal
 
-pub returns-then-is-blank : goal.returns-then-is-blank
-returns-then-is-blank c =
-    let e = sym c.if-is-blank.ensures.answer in
+pub returns-then-is_blank : goal.returns-then-is_blank
+returns-then-is_blank c =
+    let e = sym c.if-is_blank.ensures.answer in
     record {
       within = omega arith;
       front = sym (c.loop-i.invariant.0 ∙ front_end c.args.bytes.now c.loop-i.i c.loop-i-test.true e);
@@ -15,7 +15,7 @@ returns-then-is-blank c =
 
 pub loop-i-preserved : goal.loop-i-preserved
 loop-i-preserved c =
-    let e = sym c.if-is-blank.ensures.answer in (
+    let e = sym c.if-is_blank.ensures.answer in (
       c.loop-i.invariant.0 ∙ front_more c.args.bytes.now c.loop-i.i c.loop-i-test.true e,
       c.loop-i.invariant.1 ∙ past_more c.args.bytes.now c.loop-i.i c.loop-i-test.true e,
     )

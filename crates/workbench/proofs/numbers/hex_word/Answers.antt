@@ -1,4 +1,4 @@
-use Rattle.std.proofs.Common.{◌≡◌, ℕ, ◌-◌, ◌≤◌, true, ◌&&◌, eqb, length, get_or, take, drop, None, sym, ap, ◌∙◌, arith, length-drop}
+use Rattle.std.proofs.Common.{◌≡◌, ◌-◌, ◌≤◌, true, ◌&&◌, eqb, length, get_or, drop, None, sym, ap, ◌∙◌, arith, length-drop}
 use Rattle.std.proofs.lemmas.List.{take_all}
 use Rattle.std.proofs.lemmas.Bool.{cond-true}
 use Rattle.std.proofs.lemmas.Bool.Decides.{nat_tests}
@@ -13,6 +13,6 @@ returns-in-48 c =
     let prefix : (eqb (get_or word 0 0) 48 && eqb (get_or word 1 0) 120) ≡ true = grind (arith, nat_tests) in
     record {
       value =
-          c.in-base.ensures.value ∙ ap (numeral 16) (take_all (length word - 2) (drop 2 word) all)
+          c.in_base.ensures.value ∙ ap (numeral 16) (take_all (length word - 2) (drop 2 word) all)
           ∙ sym (cond-true (eqb (get_or word 0 0) 48 && eqb (get_or word 1 0) 120) (numeral 16 (drop 2 word)) None prefix);
     }

@@ -8,7 +8,7 @@ pub returns-in_err-value : goal.returns-in_err-value
 returns-in_err-value c =
     record {
       value =
-          c.from-residual.ensures
+          c.from_residual.ensures
           ∙ sym (worth_stuck c.args.base c.loop-byte.value c.args.digits.now c.loop-byte.byte-index
           c.requires.base c.loop-byte-test.true c.loop-byte.invariant.1 (sym c.in_err-value.ensures.value));
     }
@@ -22,9 +22,9 @@ loop-byte-preserved c = (
       c.loop-byte-test.true (sym c.in_ok-value.ensures.value),
 )
 
-pub returns-else-is-empty : goal.returns-else-is-empty
-returns-else-is-empty c =
-    let e = c.if-is-empty.ensures in
+pub returns-else-is_empty : goal.returns-else-is_empty
+returns-else-is_empty c =
+    let e = c.if-is_empty.ensures in
     let some : 0 < length c.args.digits.now = grind (arith, nat_tests) in
     record {
       value =

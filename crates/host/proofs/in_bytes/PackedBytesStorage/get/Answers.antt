@@ -1,5 +1,5 @@
-use Rattle.std.proofs.Common.{◌≡◌, ℕ, ◌+◌, ◌*◌, ◌/◌, ◌%◌, ◌<◌, List, get_or, sym, ap, ◌∙◌, subst, arith}
-use Rattle.bits.specs.Bit.{bit, mirror, pair_bit}
+use Rattle.std.proofs.Common.{◌≡◌, ℕ, ◌+◌, ◌*◌, ◌/◌, ◌%◌, ◌<◌, List, ap, ◌∙◌, arith}
+use Rattle.bits.specs.Bit.{bit, pair_bit}
 use Rattle.host.specs.Rows.{byte_bit}
 use Rattle.host.proofs.RowLaws.{bytes_pair, counted_read, pair_low}
 use Rattle.host.proofs.in_bytes.PackedBytesStorage.get.Goals as goal

@@ -1,11 +1,11 @@
-use Rattle.std.proofs.Common.{◌≡◌, ℕ, ◌+◌, ◌-◌, cond, List, None, vec_items, Option, sym, refl, ap, ◌∙◌, subst}
+use Rattle.std.proofs.Common.{◌≡◌, ℕ, ◌+◌, ◌-◌, cond, List, None, vec_items, Option, sym, refl, ap, ◌∙◌}
 use Rattle.bits.specs.Bit.{bit, within}
 use Rattle.host.specs.Hosts.{place_in}
 use Rattle.host.specs.Parts.{part_refusal}
 use Rattle.host.specs.Rows.{row_bit}
-use Rattle.host.specs.Spans.{bit_at, lies, span_at, start_of, width_at, width_of}
+use Rattle.host.specs.Spans.{bit_at, lies, start_of, width_at, width_of}
 use Rattle.host.specs.declared.spans.Span.{Span}
-use Rattle.host.specs.SpanLaws.{part_inside, write_shows}
+use Rattle.host.proofs.SpanLaws.{part_inside, write_shows}
 use Rattle.host.proofs.laying.LaidHost.write.Goals as goal
 
 pub returns : goal.returns

@@ -1,10 +1,10 @@
-use Rattle.std.proofs.Common.{◌≡◌, ℕ, ◌<◌, List, length, Option, Vec, sym, ap, ◌∙◌, arith}
+use Rattle.std.proofs.Common.{◌≡◌, ℕ, ◌<◌, List, length, Option, Vec, ap, ◌∙◌, arith}
 use Rattle.std.proofs.lemmas.List.{with_items_is, take_all}
 use Rattle.std.specs.Vec.{with_items}
 use Rattle.std.specs.declared.alloc.Global.{Global}
 use Rattle.host.specs.Spans.{laid, span_at}
 use Rattle.host.specs.declared.spans.Span.{Span}
-use Rattle.host.specs.SpanLaws.{laid_order, laid_sound, noted, same_order, same_sound}
+use Rattle.host.proofs.SpanLaws.{laid_order, laid_sound, noted, same_order, same_sound}
 use Rattle.host.proofs.tables.Table.new.Goals as goal
 
 -- what the table holds once the places are noted in its memory
@@ -15,18 +15,19 @@ places v noting room ws l m h k =
     ∙ noted room ws noting (length ws) (l ∙ m) h k
     ∙ ap (λ (xs : List ℕ). span_at (laid room 0 xs) k) (take_all (length ws) ws (omega arith))
 
-pub invariant-of-result : goal.invariant-of-result
-invariant-of-result c =
+pub invariant_of-result : goal.invariant_of-result
+invariant_of-result c =
     let v = c.in_ok-spans.spans in
     let noting : List (Option Span) = c.lay.new.spans in
     let room : ℕ = c.args.room in
     let ws : List ℕ = c.args.widths.now in
     let m : v.len ≡ length ws = c.in_ok-spans.ensures.len in
     let l : length noting ≡ v.len = omega arith in
-    let p = places v noting room ws l m (λ k h. c.lay.ensures.spans k (omega arith)) in (
-      same_sound (with_items v noting).items (laid room 0 ws) p (laid_sound room 0 ws),
-      (same_order (with_items v noting).items (laid room 0 ws) p (laid_order room 0 ws), tt),
-    )
+    let p = places v noting room ws l m (λ k h. c.lay.ensures.spans k (omega arith)) in
+    record {
+      sound = same_sound (with_items v noting).items (laid room 0 ws) p (laid_sound room 0 ws);
+      ordered = same_order (with_items v noting).items (laid room 0 ws) p (laid_order room 0 ws);
+    }
 
 pub returns : goal.returns
 returns c =

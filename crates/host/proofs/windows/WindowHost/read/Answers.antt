@@ -2,7 +2,7 @@ use Rattle.std.proofs.Common.{ℕ, List, Some, Option, ap, ◌∙◌}
 use Rattle.host.specs.Parts.{size}
 use Rattle.host.specs.Spans.{span_at}
 use Rattle.host.specs.declared.spans.Span.{Span}
-use Rattle.host.specs.SpanLaws.{refused_there, size_below}
+use Rattle.host.proofs.SpanLaws.{refused_there, size_below}
 use Rattle.host.proofs.windows.WindowHost.read.Goals as goal
 
 -- no part of what the table says

@@ -5,7 +5,7 @@ use Rattle.host.specs.Hosts.{place_in}
 use Rattle.host.specs.Parts.{inside, size}
 use Rattle.host.specs.Spans.{bit_at, span_at, start_of, width_at, width_of}
 use Rattle.host.specs.declared.spans.Span.{Span}
-use Rattle.host.specs.SpanLaws.{in_part, lies_inside, part_accepted, part_inside, refused_there, size_below, write_shows}
+use Rattle.host.proofs.SpanLaws.{in_part, lies_inside, part_accepted, part_inside, refused_there, size_below, write_shows}
 use Rattle.host.proofs.windows.WindowHost.write.Goals as goal
 
 -- no part of what the table says
@@ -23,7 +23,7 @@ returns-in_default g c =
       widths = λ k. refl;
       numbers = λ k. refl;
       below = λ k i. refl;
-      below-widths = λ k. refl;
+      below_widths = λ k. refl;
       places = (refl, refl);
     }
 
@@ -63,6 +63,6 @@ returns-in-Ok g c =
       widths = λ k. ap (λ (x : Option ℕ). width_at (size x) spans k) (c.in-Ok.ensures.widths shown);
       numbers = c.in-Ok.ensures.numbers;
       below = written;
-      below-widths = c.in-Ok.ensures.widths;
+      below_widths = c.in-Ok.ensures.widths;
       places = (refl, refl);
     }

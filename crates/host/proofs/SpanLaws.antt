@@ -1,14 +1,13 @@
 -- Variables laid end to end: their places are lawful and apart, and a write to a part of one shows in that part alone.
 use Rattle.std.specs.Prelude.{◌≡◌, ℕ, zero, suc, ◌+◌, ◌-◌, ◌^◌, ◌<◌, ◌≤◌, min, Bool, true, false, cond, ◌&&◌, ◌⊎◌, List, [], ◌∷◌, length, take, drop, is_some, is_ok, Some, None, Ok, Err, Option, Result, ◌==◌, ◌≢◌, nat_le, nat_lt, slice_index, refl}
-use Rattle.std.proofs.Common.{sym, ap, ap₂, subst, ◌∙◌, inl, inr, ⊎_elim, le_of_suc-le-suc, add-one, arith, length-take}
+use Rattle.std.proofs.Common.{sym, ap, ap₂, subst, ◌∙◌, inl, inr, ⊎_elim, le_of_suc-le-suc, arith, length-take}
 use Rattle.std.proofs.lemmas.List.{drop_more, drop_all, get_or_past}
-use Rattle.std.proofs.lemmas.Bool.{and_from, and_parts, cases_Bool, cases_eq, cases_lt, cases_order, cond-true, cond-false, eq-eqb, ne_eqb, leb-true, le-leb, ltb-true, lt-ltb, le-ltb}
+use Rattle.std.proofs.lemmas.Bool.{and_from, and_parts, cases_Bool, cases_eq, cases_lt, cond-true, cond-false, eq-eqb, ne_eqb, leb-true, le-leb, lt-ltb}
 use Rattle.std.proofs.lemmas.Bool.Decides.{nat_tests}
 use Rattle.bits.specs.Bit.{bit, within}
-use Rattle.host.specs.Hosts.{NoSharedPlace, place_in}
+use Rattle.host.specs.Hosts.{NoSharedPlace}
 use Rattle.host.specs.Parts.{inside, part_refusal, refused_part, size}
-use Rattle.host.specs.Refusals.{plain, refusal}
-use Rattle.host.specs.declared.reasons.Reason.TheVariants.{PartOutside}
+use Rattle.host.specs.Refusals.{refusal}
 use Rattle.host.specs.declared.reasons.Refusal.{Refusal}
 use Rattle.host.specs.Spans.{clipped, fits, placed, laid, span_at, lies, seen, width_of, start_of, width_at, shown, sound, before, AllSound, InOrder}
 use Rattle.host.specs.declared.spans.Span.{Span}
@@ -96,12 +95,6 @@ same_sound xs ys e h k = ap sound (e k) ∙ h k
 
 pub same_order : (xs ys : List (Option Span)) → ((k : ℕ) → span_at xs k ≡ span_at ys k) → InOrder ys → InOrder xs
 same_order xs ys e h j k l = ap₂ before (e j) (e k) ∙ h j k l
-
--- what a row shows is as small as the row's bits
-pub shown_below : (s : Option Span) (row : ℕ → ℕ) (i : ℕ) → ((p : ℕ) → row p < 2) → shown s row i < 2
-shown_below None row i h = omega arith
-shown_below (Some s) row i h =
-    elim (nat_lt i s.width) as (λ b. cond b (row (s.start + i)) 0 < 2) [ true ↦ h (s.start + i) | false ↦ omega arith ]
 
 -- a call that was not refused
 pub ok_from_none : {X : Type 0} (r : Result X Refusal) → refusal r ≡ None → is_ok r ≡ true
