@@ -1,4 +1,6 @@
 //! The demonstration of layouts: the packing of an evening, described as rules editors do.
+#![tactic(auto)]
+
 mod faults;
 mod layouts;
 

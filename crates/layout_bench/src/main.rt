@@ -1,4 +1,6 @@
 //! The workbench: reads calls from standard input, one a line, and prints each answer.
+#![tactic(auto)]
+
 mod answers;
 mod bench;
 mod handing;

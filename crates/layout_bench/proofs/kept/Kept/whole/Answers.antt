@@ -6,8 +6,8 @@ use Rattle.layout_bench.proofs.kept.Kept.whole.Goals as goal
 pub returns : goal.returns
 returns c =
     record {
-      bytes = take_at c.copy-from-slice.new.self _ (length c.args.text.now) (ap length c.copy-from-slice.ensures.after) ∙ c.copy-from-slice.ensures.after;
+      bytes = take_at c.copy_from_slice.new.self _ (length c.args.text.now) (ap length c.copy_from_slice.ensures.after) ∙ c.copy_from_slice.ensures.after;
     }
 
-pub invariant-of-result : goal.invariant-of-result
-invariant-of-result c = (search (rules, overwrites), (c.requires.short, tt))
+pub invariant_of-result : goal.invariant_of-result
+invariant_of-result c = record { full = search (rules, overwrites); within = c.requires.short }
