@@ -1,8 +1,8 @@
-// What the workbench says of itself.
+// What the program says of itself.
 use std::io;
 
 const HELP: &str = "\
-workbench: reads commands from standard input, one a line, and prints an answer to each.
+layout_bench: reads commands from standard input, one a line, and prints an answer to each.
 
   host words WIDTHS NUMBERS STORAGE   a host over words, as: host words 3,5 7 0xab,0x0
   host bytes WIDTHS NUMBERS STORAGE   a host over bytes, as: host bytes 3,5 7 ab00

@@ -1,4 +1,4 @@
-//! The workbench: reads calls from standard input, one a line, and prints each answer.
+//! The workbench with the calls of layouts: reads calls from standard input, one a line, and prints each answer.
 #![tactic(auto)]
 
 mod answers;

@@ -5,7 +5,7 @@ use Rattle.std.proofs.lemmas.List.{get_or_append_left, get_or_push, length_push}
 use Rattle.std.proofs.lemmas.Bool.{and_from, cases_eq, eq-eqb, eqb-true, false≢true}
 use Rattle.std.proofs.lemmas.Bool.Decides.{Decides-at}
 use Rattle.std.specs.Option.{option_or}
-use Rattle.std.specs.List.{AllByRecursion as All}
+use Rattle.std.specs.List.{AllByRecursion}
 use Rattle.names.specs.declared.numbers.PName.{PName}
 use Rattle.components.specs.Concatenations.{all_of, bits_of, certainly_wide, deterministic, known_width, some_of}
 use Rattle.components.specs.declared.component.Component.{Component}
@@ -99,7 +99,7 @@ first_found (claim ∷ claims) e (suc k) w h s = go claim.static_width refl (fir
     go None i r = (suc r.0, r.1, omega (arith, r.2), r.3, ap (λ o. option_or o (first_width claims)) i ∙ r.4)
 
 -- all agree with a width exactly if each does
-agreeing : (common : Option ℕ) (claims : List ConcatClaim) → Decides (all_of (width_agrees common) claims) (All (λ claim. width_agrees common claim ≡ true) claims)
+agreeing : (common : Option ℕ) (claims : List ConcatClaim) → Decides (all_of (width_agrees common) claims) (AllByRecursion (λ claim. width_agrees common claim ≡ true) claims)
 agreeing common claims =
     Decides-by_and (width_agrees common) (λ claim. width_agrees common claim ≡ true) (all_of (width_agrees common)) (λ claim. (λ h. h, λ h. h)) refl (λ _ _. refl) claims
 

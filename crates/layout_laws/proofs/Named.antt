@@ -5,7 +5,7 @@ use Rattle.std.proofs.lemmas.List.{get_or_append_left, get_or_push, length_push}
 use Rattle.std.proofs.lemmas.Bool.{and_parts, both_ways, cases_Bool, cases_eq, leb-true, or_left, or_right}
 use Rattle.std.specs.Option.{option_map}
 use Rattle.std.specs.Ordering.{is_eq}
-use Rattle.std.specs.List.{AllByRecursion as All}
+use Rattle.std.specs.List.{AllByRecursion}
 use Rattle.pool.specs.Firsts.{Once, known, with_key}
 use Rattle.pool.specs.Words.{by_word}
 use Rattle.pool.proofs.Firsts.{with_known, with_unknown}
@@ -23,12 +23,12 @@ use Rattle.layout_laws.specs.NamesOfLists.{NamesNeverRunOut, NamesOfLists, Names
 use Rattle.layout_laws.proofs.Pigeonhole.{few}
 
 -- the list whose text name i is
-list_of : (lists : List Item) (names : List (List ℕ)) → All (TextOfAList lists) names → ℕ → ℕ
+list_of : (lists : List Item) (names : List (List ℕ)) → AllByRecursion (TextOfAList lists) names → ℕ → ℕ
 list_of lists [] t i = 0
 list_of lists (x ∷ xs) t zero = t.0.0
 list_of lists (x ∷ xs) t (suc i) = list_of lists xs t.1 i
 
-list_is : (lists : List Item) (names : List (List ℕ)) (t : All (TextOfAList lists) names) (i : ℕ) → i < length names
+list_is : (lists : List Item) (names : List (List ℕ)) (t : AllByRecursion (TextOfAList lists) names) (i : ℕ) → i < length names
     → (list_of lists names t i < 256) × (flattened lists (list_of lists names t i) ≡ get_or names i [])
 unfolding list_of
 list_is lists [] t i h = absurd (omega arith)

@@ -1,6 +1,6 @@
 -- Names are texts of lists.
 use Rattle.std.specs.Prelude.{◌≡◌, ℕ, ◌<◌, ◌≤◌, true, List, [], length}
-use Rattle.std.specs.List.{AllByRecursion as All}
+use Rattle.std.specs.List.{AllByRecursion}
 use Rattle.pool.specs.Firsts.{Once}
 use Rattle.pool.specs.Words.{by_word}
 use Rattle.components.specs.declared.component.Component.{Component}
@@ -16,7 +16,7 @@ TextOfAList lists text = (list : ℕ) × (list < 256) × (flattened lists list �
 
 -- each name is such a text, and no name stands twice
 pub record NamesOfLists (lists : List Item) (names : List (List ℕ)) : Type 0 where
-  pub texts : All (TextOfAList lists) names
+  pub texts : AllByRecursion (TextOfAList lists) names
   pub once : Once by_word names
 
 -- there are at most as many such names as lists: 256

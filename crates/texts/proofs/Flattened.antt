@@ -3,7 +3,7 @@ use Rattle.std.proofs.Common.{◌≡◌, ℕ, zero, suc, ◌+◌, ◌<◌, ◌�
 use Rattle.std.proofs.lemmas.List.{append_assoc, append-nil, at_drop_all, at_drop_more}
 use Rattle.std.proofs.ByRecursion.{All-get_or}
 use Rattle.std.proofs.lemmas.Bool.{and_parts, cases_Bool, cond_both, eqb-true, leb-false, lt-leb, ltb-true}
-use Rattle.std.specs.List.{flat_map, AllByRecursion as All}
+use Rattle.std.specs.List.{flat_map, AllByRecursion}
 use Rattle.texts.specs.Tokens.{bytes_of, child_above, every_child_above, flat, flattened, item_text, items_of, lhs, rhs}
 use Rattle.texts.specs.declared.short_text.ShortText.{ShortText}
 use Rattle.texts.specs.declared.token_tree.Delimiter.{Delimiter}
@@ -111,10 +111,10 @@ child_falls items slice list i x d child a e l is g =
         ap (λ (y : Item). child_above list y.text) e
         ∙ All-get_or (λ (y : Item). child_above list y.text ≡ true) (items_of list items) i x l (every_run items a)
       where
-        every_run : (ys : List Item) → every_child_above ys ≡ true → All (λ (y : Item). child_above list y.text ≡ true) (items_of list ys)
+        every_run : (ys : List Item) → every_child_above ys ≡ true → AllByRecursion (λ (y : Item). child_above list y.text ≡ true) (items_of list ys)
         every_run [] a = tt
         every_run (y ∷ ys) a =
             let p = and_parts (child_above y.list y.text) (every_child_above ys) a in
-            cond_both (eqb y.list list) (y ∷ items_of list ys) (items_of list ys) (All (λ (z : Item). child_above list z.text ≡ true))
+            cond_both (eqb y.list list) (y ∷ items_of list ys) (items_of list ys) (AllByRecursion (λ (z : Item). child_above list z.text ≡ true))
             (λ e. (ap (λ (n : ℕ). child_above n y.text) (sym (eqb-true y.list list e)) ∙ p.0, every_run ys p.1))
             (λ e. every_run ys p.1)
