@@ -1,5 +1,5 @@
 -- What may be claimed of a layout when it is sealed.
-use Rattle.std.specs.Prelude.{ℕ, zero, suc, Bool, true, false, cond, not, ◌&&◌, ◌||◌, ltb, List, [], ◌∷◌, ◌++◌, length, is_some, Some, None, Option, ◌==◌, nat_le, nat_lt, slice_index_or}
+use Rattle.std.specs.Prelude.{ℕ, zero, suc, Bool, true, false, cond, not, ◌&&◌, ◌||◌, List, [], ◌∷◌, ◌++◌, length, is_some, Some, None, Option, ◌==◌, nat_le, nat_lt, slice_index_or}
 use Rattle.names.specs.declared.numbers.PName.{PName}
 use Rattle.components.specs.Alignments.{alignment, number_of, overall}
 use Rattle.components.specs.Concatenations.{all_of, certainly_wide, deterministic, of_static_width, some_filler, some_of}
@@ -21,7 +21,7 @@ some_below test (suc n) = some_below test n || test n
 
 -- there is a concatenation, and each has a component
 abbrev pub filled : Described → Bool
-filled d = nat_lt 0 (concats d) && every_below (λ k. ltb 0 (length (comps_at d k))) (concats d)
+filled d = nat_lt 0 (concats d) && every_below (λ k. nat_lt 0 (length (comps_at d k))) (concats d)
 
 -- deterministic: claimed exactly of a concatenation without an unbounded filler
 abbrev pub same_bool : Bool → Bool → Bool

@@ -2,32 +2,12 @@
 ghost use Rattle.std.specs.Prelude.{◌≡◌, ◌<◌, ◌≤◌, length, IfSome};
 ghost use Rattle.std.specs.Option.{option_map};
 ghost use Rattle.pool.specs.Firsts.{number_in};
-ghost use Rattle.pool.specs.Held.{keys_of, places_of, Sought, SoundIn};
+ghost use Rattle.pool.specs.Held.{places_of, Sought};
 ghost use Rattle.pool.specs.Pools.{Fits, in_use, pool_keys, Sound};
 
-use crate::entry::Entry;
 use crate::key::Key;
 use crate::pool::Pool;
 use crate::slot::seek_in;
-
-/// The number of the key among entries that a pool has in use and has lent back, or nothing where the key is unknown. It finds as `find`
-/// does, where the entries may only be read.
-pub fn find_in<K: Key, M: Copy>(
-    entries: &[Entry<K, M>],
-    parts: &[K::Part],
-    key: K,
-    own: &[K::Part],
-) -> Option<K::Number>
-    requires sound { SoundIn K.Key.order K.Key.meaning K.Key.reach parts.now entries.now }
-    requires own { K.Key.reach key ≤ length own.now }
-    ensures number { option_map K.Number.Number.number result ≡ number_in K.Key.order (keys_of K.Key.meaning parts.now entries.now) (K.Key.meaning key own.now) }
-    ensures within { IfSome result (λ n. K.Number.Number.number n < length entries.now) }
-{
-    match seek_in(entries, parts, &key, own) {
-        Ok(number) => Some(number),
-        Err(_) => None,
-    }
-}
 
 impl<'a, K: Key, M: Copy> Pool<'a, K, M> {
     // The number of the key, or as an `Err` the slot where a number of its own would go.
@@ -54,6 +34,9 @@ impl<'a, K: Key, M: Copy> Pool<'a, K, M> {
         ensures number { option_map K.Number.Number.number result ≡ number_in K.Key.order (pool_keys K.Key.meaning parts.now self.now) (K.Key.meaning key own.now) }
         ensures within { IfSome result (λ n. K.Number.Number.number n < self.now.used) }
     {
-        find_in(self.walk(), parts, key, own)
+        match self.seek(parts, &key, own) {
+            Ok(number) => Some(number),
+            Err(_) => None,
+        }
     }
 }

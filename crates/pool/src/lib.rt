@@ -21,6 +21,7 @@ mod find;
 mod insert;
 mod key;
 mod lent;
+mod lookup;
 mod marks;
 mod numbers;
 mod parts;
@@ -34,8 +35,8 @@ mod tests;
 mod words;
 
 pub use entry::Entry;
-pub use find::find_in;
 pub use key::{Key, Number};
+pub use lookup::find_in;
 pub use numbers::{PBind, PCWidth, PVal, PWidth};
 pub use parts::Parts;
 pub use pool::Pool;

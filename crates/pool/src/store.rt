@@ -1,10 +1,30 @@
 // Storing parts.
-ghost use Rattle.std.specs.Prelude.{◌≡◌, ℕ, ◌+◌, ◌<◌, ◌≤◌, ◌++◌, length, slice_index_or};
+ghost use Rattle.std.specs.Prelude.{◌≡◌, ℕ, ◌+◌, ◌<◌, ◌≤◌, [], ◌++◌, length, slice_index_or};
 ghost use Rattle.pool.specs.Stored.{parts_of, PartsFit, stored};
 
 use crate::parts::Parts;
 
 impl<'a, P: Copy> Parts<'a, P> {
+    /// A store of parts over the slice, with none in use.
+    pub fn new(parts: &'a mut [P]) -> Parts<'a, P>
+        requires small { length parts.old < 65536 }
+        ensures used { result.used ≡ 0 }
+        ensures stored { stored result ≡ [] }
+        ensures same { parts_of result ≡ parts.old }
+        ensures lent { result.parts.ghost_name ≡ parts.entry.ghost_name }
+        ensures fits { PartsFit result }
+    {
+        Parts { parts, used: 0 }
+    }
+
+    /// The parts in use.
+    pub fn stored(&self) -> &[P]
+        requires fits { PartsFit self.now }
+        ensures stored { result.now ≡ stored self.now }
+    {
+        &self.parts[0..self.used]
+    }
+
     // Copies the parts to the end of those in use, and answers where they begin.
     pub(crate) fn store(&mut self, own: &[P]) -> usize
         requires fits { PartsFit self.old }

@@ -1,20 +1,28 @@
-use Rattle.std.proofs.Common.{◌≡◌, ℕ, ◌<◌, length, IfSome, sym, ap, ◌∙◌, subst}
-use Rattle.std.proofs.lemmas.List.{length-take-le}
+use Rattle.std.proofs.Common.{◌≡◌, Some, sym, arith}
 use Rattle.pool.specs.Firsts.{number_in}
-use Rattle.pool.specs.Held.{keys_of, SoundIn}
-use Rattle.pool.specs.Pools.{entries_of}
+use Rattle.pool.specs.Held.{places_of}
+use Rattle.pool.specs.Pools.{in_use, pool_keys}
+use Rattle.pool.proofs.Facts.{found_out}
+use Rattle.pool.proofs.Firsts.{number_within}
+use Rattle.pool.proofs.InUse.{long_keys}
+use Rattle.pool.proofs.Slots.{number_unknown}
 use Rattle.pool.proofs.pool.Pool.find.Goals as goal
 
-pub find_in-requires : goal.find_in-requires
-find_in-requires g c = record { sound = subst (λ es. SoundIn g.K.Key.order g.K.Key.meaning g.K.Key.reach c.args.parts.now es) (sym c.walk.ensures.entries) c.requires.sound; own = c.requires.own }
+pub returns-in-Ok : goal.returns-in-Ok
+returns-in-Ok g c =
+    let pool = c.args.self.now in
+    let keys = pool_keys g.K.Key.meaning c.args.parts.now pool in
+    let k = g.K.Key.meaning c.args.key c.args.own.now in
+    let n = g.K.Number.Number.number c.in-Ok.number in
+    let e : number_in g.K.Key.order keys k ≡ Some n = c.in-Ok.ensures.sought in
+    record { number = sym e; within = omega (arith, number_within g.K.Key.order keys k n e, long_keys pool c.requires.fits.0 g.K.Key.meaning c.args.parts.now) }
 
-pub returns : goal.returns
-returns g c =
+pub returns-in-Err : goal.returns-in-Err
+returns-in-Err g c =
     let pool = c.args.self.now in
     let k = g.K.Key.meaning c.args.key c.args.own.now in
-    let e = c.walk.ensures.entries in
-    let long : length c.walk.result.now ≡ pool.used = ap length e ∙ length-take-le pool.used (entries_of pool) c.requires.fits.0 in
+    let s = c.in-Err.ensures.sought in
     record {
-      number = c.find_in.ensures.number ∙ ap (λ es. number_in g.K.Key.order (keys_of g.K.Key.meaning c.args.parts.now es) k) e;
-      within = subst (λ (l : ℕ). IfSome c.find_in.result (λ n. g.K.Number.Number.number n < l)) long c.find_in.ensures.within;
+      number = sym (number_unknown g.K.Key.order g.met.K.Key.orders (pool_keys g.K.Key.meaning c.args.parts.now pool) (places_of (in_use pool)) (found_out c.requires.sound).ordered k c.in-Err.field-0 s.1 s.2);
+      within = tt;
     }

@@ -5,7 +5,7 @@ use Rattle.pool.proofs.Entries.{length_keys}
 use Rattle.pool.proofs.Facts.{found_out}
 use Rattle.pool.proofs.Firsts.{number_within}
 use Rattle.pool.proofs.Slots.{number_unknown}
-use Rattle.pool.proofs.find.find_in.Goals as goal
+use Rattle.pool.proofs.lookup.find_in.Goals as goal
 
 pub seek_in-requires : goal.seek_in-requires
 seek_in-requires g c = let f = found_out c.requires.sound in record { ordered = f.ordered; reached = f.reached; own = c.requires.own }
