@@ -19,6 +19,8 @@ fn joined(low: u64, high: u64) -> u128
     (high as u128) << 64 | low as u128
 }
 
+// A part of two words is four plain numbers: a struct for them would be filled at each call and taken apart at once.
+
 /// The `count` bits from `shift` on of the two words, with zeros above them.
 pub fn part(low: u64, high: u64, shift: usize, count: usize) -> u64
     requires shift { shift < 64 }

@@ -1,11 +1,12 @@
 -- Rows of bits: what a pair of words says of a row, and what putting it back changes.
-use Rattle.std.proofs.Common.{◌≡◌, ℕ, ◌+◌, ◌-◌, ◌*◌, ◌/◌, ◌%◌, ◌<◌, ◌≤◌, Bool, true, false, cond, ltb, ◌≢◌, List, length, get_or, set, sym, refl, ap, ◌∙◌, ap₂, ⊎_elim, arith, length-set}
+use Rattle.std.proofs.Common.{◌≡◌, ℕ, zero, suc, ◌^◌, ◌+◌, ◌-◌, ◌*◌, ◌/◌, ◌%◌, ◌<◌, ◌≤◌, Bool, true, false, cond, ltb, ◌≢◌, List, length, get_or, set, sym, refl, ap, ◌∙◌, ap₂, ⊎_elim, arith, length-set}
 use lib.Bits.{bit_and, and_mask}
 use Rattle.std.proofs.lemmas.List.{get_or-set_same, get_or-set_other}
 use Rattle.std.proofs.lemmas.Bool.{cases_eq, cases_lt, cond-true, cond-false, lt-ltb, le-ltb}
 use Rattle.std.proofs.lemmas.Bool.Decides.{nat_tests}
 use Rattle.bits.specs.Bit.{bit, mirror, pair_bit, within}
-use Rattle.bits.proofs.BitLaws.{bit_mod}
+use Rattle.bits.proofs.BitLaws.{bit_mod, bit_shr}
+use Rattle.std.specs.Int.{to_le_bytes, w64}
 use Rattle.host.specs.Rows.{word_bit, byte_bit}
 
 pub within_true : (at n p : ℕ) → at ≤ p → p < at + n → within at n p ≡ true
@@ -136,6 +137,23 @@ words_set_both ws word low high p h =
 
 pub byte_at : (bs : List ℕ) (p m b : ℕ) → p / 8 ≡ m → 7 - p % 8 ≡ b → byte_bit bs p ≡ bit (get_or bs m 0) b
 byte_at bs p m b d e = ap₂ (λ (x y : ℕ). bit (get_or bs x 0) y) d e
+
+-- a number as eight bytes, the lowest first
+pub le_byte : (n k : ℕ) → k < 8 → get_or (to_le_bytes w64 n) k 0 ≡ n / 2 ^ (8 * k) % 256
+le_byte n zero h = grind arith
+le_byte n (suc zero) h = refl
+le_byte n (suc (suc zero)) h = refl
+le_byte n (suc (suc (suc zero))) h = refl
+le_byte n (suc (suc (suc (suc zero)))) h = refl
+le_byte n (suc (suc (suc (suc (suc zero))))) h = refl
+le_byte n (suc (suc (suc (suc (suc (suc zero)))))) h = refl
+le_byte n (suc (suc (suc (suc (suc (suc (suc zero))))))) h = refl
+le_byte n (suc (suc (suc (suc (suc (suc (suc (suc k)))))))) h = absurd (omega arith)
+
+pub le_bit : (n i : ℕ) → i < 64 → bit (get_or (to_le_bytes w64 n) (i / 8) 0) (i % 8) ≡ bit n i
+le_bit n i h =
+    ap (λ (x : ℕ). bit x (i % 8)) (le_byte n (i / 8) (omega arith))
+    ∙ bit_mod (n / 2 ^ (8 * (i / 8))) 8 (i % 8) (omega arith) ∙ bit_shr n (8 * (i / 8)) (i % 8) ∙ ap (bit n) (omega arith)
 
 -- eight bytes, turned round, and the ninth hold 72 places of the row
 pub bytes_pair : (bs : List ℕ) (from low ninth j : ℕ) → ((i : ℕ) → i < 64 → bit low i ≡ byte_bit bs (8 * from + i))

@@ -1,6 +1,6 @@
 -- Variables laid end to end: their places are lawful and apart, and a write to a part of one shows in that part alone.
-use Rattle.std.specs.Prelude.{◌≡◌, ℕ, zero, suc, ◌+◌, ◌-◌, ◌^◌, ◌<◌, ◌≤◌, min, Bool, true, false, cond, ◌&&◌, ◌⊎◌, List, [], ◌∷◌, length, take, drop, is_some, is_ok, Some, None, Ok, Err, Option, Result, ◌==◌, ◌≢◌, nat_le, nat_lt, slice_index, refl}
-use Rattle.std.proofs.Common.{sym, ap, ap₂, subst, ◌∙◌, inl, inr, ⊎_elim, le_of_suc-le-suc, arith, length-take}
+use Rattle.std.specs.Prelude.{◌≡◌, ℕ, zero, suc, ◌+◌, ◌-◌, ◌<◌, ◌≤◌, min, Bool, true, false, cond, ◌&&◌, ◌⊎◌, List, [], ◌∷◌, length, take, drop, is_some, is_ok, Some, None, Ok, Err, Option, Result, ◌==◌, ◌≢◌, nat_le, nat_lt, slice_index, refl}
+use Rattle.std.proofs.Common.{sym, ap, ap₂, ◌∙◌, inl, inr, ⊎_elim, le_of_suc-le-suc, arith, length-take}
 use Rattle.std.proofs.lemmas.List.{drop_more, drop_all, get_or_past}
 use Rattle.std.proofs.lemmas.Bool.{and_from, and_parts, cases_Bool, cases_eq, cases_lt, cond-true, cond-false, eq-eqb, ne_eqb, leb-true, le-leb, lt-ltb}
 use Rattle.std.proofs.lemmas.Bool.Decides.{nat_tests}
@@ -96,11 +96,6 @@ same_sound xs ys e h k = ap sound (e k) ∙ h k
 pub same_order : (xs ys : List (Option Span)) → ((k : ℕ) → span_at xs k ≡ span_at ys k) → InOrder ys → InOrder xs
 same_order xs ys e h j k l = ap₂ before (e j) (e k) ∙ h j k l
 
--- a call that was not refused
-pub ok_from_none : {X : Type 0} (r : Result X Refusal) → refusal r ≡ None → is_ok r ≡ true
-ok_from_none (Ok x) e = refl
-ok_from_none (Err x) e = let z : ◌≡◌ {A = ℕ} 0 1 = cc in absurd (omega arith)
-
 -- an accepted part
 accepted : (b : Bool) (r : Refusal) → cond b None (Some r) ≡ None → b ≡ true
 accepted true r e = refl
@@ -120,15 +115,10 @@ is_part w offset count a b h =
 pub part_inside : (o : Option ℕ) (offset count : ℕ) → part_refusal o offset count ≡ None → inside (size o) offset count ≡ true
 part_inside o offset count e = accepted (inside (size o) offset count) (refused_part o) e
 
-pub part_accepted : (o : Option ℕ) (offset count : ℕ) → inside (size o) offset count ≡ true → part_refusal o offset count ≡ None
-part_accepted o offset count t = cond-true (inside (size o) offset count) None (Some (refused_part o)) t
-
-pub part_refused : (o : Option ℕ) (offset count : ℕ) → (inside (size o) offset count ≢ true) → part_refusal o offset count ≡ Some (refused_part o)
-part_refused o offset count n =
-    ⊎_elim
-    (λ (t : inside (size o) offset count ≡ true). absurd (n t))
-    (λ (t : inside (size o) offset count ≡ false). cond-false (inside (size o) offset count) None (Some (refused_part o)) t)
-    (cases_Bool (inside (size o) offset count))
+-- a call that is refused exactly where the part is not to be had, and was not refused
+pub part_had : {X : Type 0} (r : Result X Refusal) (o : Option ℕ) (offset count : ℕ) → refusal r ≡ part_refusal o offset count → is_ok r ≡ true → inside (size o) offset count ≡ true
+part_had (Ok x) o offset count e t = part_inside o offset count (sym e)
+part_had (Err x) o offset count e t = let z : ◌≡◌ {A = ℕ} 0 1 = cc in absurd (omega arith)
 
 no_part : (offset count : ℕ) → inside 0 offset count ≢ true
 no_part offset count t = let q = in_part 0 offset count t in omega arith
@@ -144,30 +134,6 @@ inside_lies room (Some s) offset count t =
       | true ↦ λ e. let q = in_part (min s.width (room - s.start)) offset count e in (is_part s.width offset count q.0 q.1 (omega arith), omega arith)
       | false ↦ λ e. absurd (no_part offset count e)
     ]) t
-
-pub lies_inside : (room : ℕ) (x : Option Span) (offset count : ℕ) → inside (size (width_of x)) offset count ≡ true → start_of x + offset + count ≤ room
-    → inside (size (width_of (lies room x))) offset count ≡ true
-lies_inside room None offset count t h = t
-lies_inside room (Some s) offset count t h =
-    let q = in_part s.width offset count t in
-    let l : s.start < room = omega arith in
-    ap (λ (o : Option Span). inside (size (width_of o)) offset count) (cond-true (nat_lt s.start room) (Some (clipped room s)) None (lt-ltb s.start room l))
-    ∙ is_part (min s.width (room - s.start)) offset count q.0 q.1 (omega arith)
-
--- a variable of a host is not larger than the widest
-pub size_below : (o : Option ℕ) → ((w : ℕ) → o ≡ Some w → (1 ≤ w) × (w ≤ 65536)) → size o < 2 ^ 64
-size_below None h = omega arith
-size_below (Some w) h = let q = h w refl in omega arith
-
--- what the table alone rules out is refused in every row
-pub refused_there : (room : ℕ) (x y : Option Span) (offset count : ℕ) → y ≡ x → room < 2 ^ 64
-    → (inside (size (width_of y)) offset count ≡ true → 2 ^ 64 ≤ start_of y + offset)
-    → Some (refused_part (width_of (lies room x))) ≡ part_refusal (width_of (lies room x)) offset count
-refused_there room x y offset count e h n =
-    sym (part_refused (width_of (lies room x)) offset count
-    (λ t. let q = inside_lies room x offset count t in
-    let m : 2 ^ 64 ≤ start_of x + offset = subst (λ (z : Option Span). 2 ^ 64 ≤ start_of z + offset) e (n (ap (λ (z : Option Span). inside (size (width_of z)) offset count) e ∙ q.0)) in
-    omega arith))
 
 module _ (offset count value : ℕ) (row row' : ℕ → ℕ) where
   -- after a write at `offset`, in a variable that starts at `start`
@@ -232,6 +198,19 @@ write_shows spans room offset count value name row row' o a e k i =
     shown_elsewhere offset count value row row' room (span_at spans name) (span_at spans k) i apart a e
     ∙ sym (ap (λ (b : Bool). cond (b && within offset count i) (bit value (i - offset)) (shown (seen room spans k) row i)) (ne_eqb k name q)))
     (cases_eq k name)
+
+-- a row that stayed shows the same
+shown_same : (s : Option Span) (row row' : ℕ → ℕ) (i : ℕ) → ((p : ℕ) → row' p ≡ row p) → shown s row' i ≡ shown s row i
+shown_same None row row' i e = refl
+shown_same (Some s) row row' i e = ap (λ (x : ℕ). cond (nat_lt i s.width) x 0) (e (s.start + i))
+
+-- the same of a write that may have been refused, and then changed nothing
+pub write_seen : (ok : Bool) (spans : List (Option Span)) (room offset count value name : ℕ) (row row' : ℕ → ℕ) → InOrder spans
+    → (ok ≡ true → inside (size (width_at room spans name)) offset count ≡ true)
+    → ((p : ℕ) → row' p ≡ cond (ok && within (start_of (span_at spans name) + offset) count p) (bit value (p - (start_of (span_at spans name) + offset))) (row p))
+    → (k i : ℕ) → shown (seen room spans k) row' i ≡ cond (ok && k == name && within offset count i) (bit value (i - offset)) (shown (seen room spans k) row i)
+write_seen true spans room offset count value name row row' o a e k i = write_shows spans room offset count value name row row' o (a refl) e k i
+write_seen false spans room offset count value name row row' o a e k i = shown_same (seen room spans k) row row' i e
 
 pub is_some_placed : (room at w : ℕ) → is_some (placed room at w) ≡ fits room at w
 is_some_placed room at w =

@@ -1,5 +1,6 @@
 -- Rows of bits in stored cells.
-use Rattle.std.specs.Prelude.{ℕ, ◌-◌, ◌*◌, ◌/◌, ◌%◌, ◌^◌, min, List, length, slice_index}
+use Rattle.std.specs.Prelude.{◌≡◌, ℕ, ◌-◌, ◌*◌, ◌/◌, ◌%◌, ◌^◌, min, List, length, slice_index}
+use Rattle.std.proofs.Common.{arith}
 use Rattle.bits.specs.Bit.{bit}
 
 -- bit p of a row of cells: `cell p` says in which of them it lies, and `inner p` at which bit there
@@ -19,6 +20,13 @@ byte_cell p = p / 8
 
 abbrev pub byte_inner : ℕ → ℕ
 byte_inner p = 7 - p % 8
+
+-- no two places of a row are one bit of one word, or of one byte
+pub words_apart : (p q : ℕ) → word_cell p ≡ word_cell q → word_inner p ≡ word_inner q → p ≡ q
+words_apart p q a b = omega arith
+
+pub bytes_apart : (p q : ℕ) → byte_cell p ≡ byte_cell q → byte_inner p ≡ byte_inner q → p ≡ q
+bytes_apart p q a b = omega arith
 
 abbrev pub word_bit : List ℕ → ℕ → ℕ
 word_bit = row_bit word_cell word_inner

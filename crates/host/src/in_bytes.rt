@@ -1,23 +1,42 @@
 // A row of bits in lent packed bytes, from the highest bit of byte 0 on.
-ghost use Rattle.std.specs.Prelude.{◌≡◌, ℕ, ◌+◌, ◌-◌, ◌*◌, ◌<◌, ◌≤◌, min, true, length};
-ghost use Rattle.bits.specs.Bit.{bit};
+ghost use Rattle.std.specs.Prelude.{◌≡◌, ℕ, ◌+◌, ◌-◌, ◌*◌, ◌<◌, ◌≤◌, if◌then◌else◌, min, true, length, slice_index};
+ghost use Rattle.bits.specs.Bit.{bit, within};
 ghost use Rattle.host.specs.Parts.{Changed};
-ghost use Rattle.host.specs.Rows.{byte_bit, byte_cell, byte_inner, bytes_room};
+ghost use Rattle.host.specs.Rows.{byte_bit, byte_cell, byte_inner, bytes_apart, bytes_room};
 
-use crate::stores::Storage;
+use crate::stores::{Exact, Storage};
+
+// The eight bytes from `from` on, with zeros past the last one.
+fn eight(bytes: &[u8], from: usize) -> [u8; 8]
+    requires from { from < length bytes.now }
+    ensures bytes { (k : ℕ) → k < 8 → slice_index result k ≡ slice_index bytes.now (from + k) }
+{
+    let rest = &bytes[from..];
+    match rest.first_chunk() {
+        Some(whole) => *whole,
+        None => {
+            let mut part = [0; 8];
+            part[..rest.len()].copy_from_slice(rest);
+            part
+        }
+    }
+}
 
 // The 64 bits of the eight bytes from `from` on, the first one lowest; zeros past the last byte.
 fn load(bytes: &[u8], from: usize) -> u64
     requires from { from < length bytes.now }
     ensures bits { (i : ℕ) → i < 64 → bit result i ≡ byte_bit bytes.now (8 * from + i) }
 {
-    let mut raw = 0;
-    for j in 0..8 {
-        if j < bytes.len() - from {
-            raw |= (bytes[from + j] as u64) << (8 * j);
-        }
-    }
-    bits::mirrored(raw)
+    bits::mirrored(u64::from_le_bytes(eight(bytes, from)))
+}
+
+// Puts eight bytes from `from` on; those past the last byte are left out.
+fn put_eight(bytes: &mut [u8], from: usize, eight: [u8; 8])
+    requires from { from < length bytes.old }
+    ensures bytes { (m : ℕ) → m < length bytes.old → slice_index bytes.new m ≡ (if within from 8 m then slice_index eight (m - from) else slice_index bytes.old m) }
+{
+    let end = bytes.len().min(from.saturating_add(8));
+    bytes[from..end].copy_from_slice(&eight[..end - from]);
 }
 
 // Puts 64 bits into the eight bytes from `from` on; those past the last byte are left out.
@@ -25,12 +44,7 @@ fn store(bytes: &mut [u8], from: usize, value: u64)
     requires from { from < length bytes.old }
     ensures stored { Changed true (8 * from) (min 64 (8 * (length bytes.old - from))) value (byte_bit bytes.old) (byte_bit bytes.new) }
 {
-    let raw = bits::mirrored(value);
-    for j in 0..8 {
-        if j < bytes.len() - from {
-            bytes[from + j] = ((raw >> (8 * j)) & 0xff) as u8;
-        }
-    }
+    put_eight(bytes, from, bits::mirrored(value).to_le_bytes());
 }
 
 // Sets the `count` bits from `at` on to the low ones of `value`, and no other.
@@ -95,4 +109,8 @@ impl Storage for PackedBytes<'_> {
     fn put(&mut self, at: usize, count: usize, value: u64) {
         splice(self.bytes, at, count, value);
     }
+}
+
+impl Exact for PackedBytes<'_> {
+    ghost apart = { bytes_apart };
 }

@@ -1,8 +1,8 @@
 // A row of bits in lent 64-bit words, from bit 0 of word 0 on.
-ghost use Rattle.host.specs.Rows.{word_cell, word_inner, words_room};
+ghost use Rattle.host.specs.Rows.{word_cell, word_inner, words_apart, words_room};
 ghost use Rattle.std.specs.Prelude.{◌≡◌};
 
-use crate::stores::Storage;
+use crate::stores::{Exact, Storage};
 
 /// Lent words: a row of 64 bits for each, the lowest first.
 #[derive(Drop)]
@@ -61,4 +61,8 @@ impl Storage for Words<'_> {
             self.words[word] = low;
         }
     }
+}
+
+impl Exact for Words<'_> {
+    ghost apart = { words_apart };
 }

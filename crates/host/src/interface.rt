@@ -6,6 +6,7 @@ ghost use Rattle.host.specs.Refusals.{refusal};
 use crate::reasons::Refusal;
 
 /// Variables and numbers by name number. Nothing is said about how they are kept.
+// A part comes as plain numbers, since wrong ones are refused.
 pub trait Host {
     // The width of a variable, or none where the host lacks it.
     ghost widths: { Self → ℕ → Option ℕ };

@@ -11,30 +11,19 @@ ghost use Rattle.std.proofs.Common.{rules};
 use crate::interface::Host;
 use crate::reasons::{Reason, Refusal};
 use crate::spans;
-use crate::spans::Span;
+use crate::spans::{Lot, Span};
 use crate::stores::Storage;
 use crate::tables::Table;
 use std::alloc::{AllocError, Global};
 
-impl Table {
+impl Table<Vec<Option<Span>>> {
     // The places of variables of these widths in a row of `room` bits.
-    fn new(heap: Global, room: usize, widths: &[usize]) -> Result<Table, AllocError>
+    fn new(heap: Global, room: usize, widths: &[usize]) -> Result<Self, AllocError>
         ensures spans { IfOk result (λ t. (k : ℕ) → span_at t.spans.items k ≡ span_at (laid room 0 widths.now) k) }
     {
         let mut spans: Vec<Option<Span>> = vec![in heap; None; widths.len()]?;
         spans::lay(room, widths, &mut spans);
         Ok(Table { spans })
-    }
-
-    // The place of a variable.
-    fn get(&self, name: usize) -> Option<Span>
-        ensures answer { result ≡ span_at self.now.spans.items name }
-    {
-        if name < self.spans.len() {
-            self.spans[name]
-        } else {
-            None
-        }
     }
 }
 
@@ -42,7 +31,7 @@ impl Table {
 #[derive(Drop)]
 pub struct Laid<S: Storage> {
     store: S,
-    table: Table,
+    table: Table<Vec<Option<Span>>>,
     numbers: Vec<u32>,
 }
 
@@ -70,6 +59,19 @@ impl<S: Storage + Drop> Laid<S> {
     }
 }
 
+impl<S: Storage> Laid<S> {
+    // The place of a variable in the row.
+    fn lot(&self, name: usize) -> Lot
+        ensures span { result.span ≡ span_at (spans_of self.now) name }
+        ensures room { result.room ≡ S.Storage.room self.now.store }
+    {
+        Lot {
+            span: self.table.get(name),
+            room: self.store.size(),
+        }
+    }
+}
+
 /// Each call costs the same for the first name and the last.
 impl<S: Storage> Host for Laid<S> {
     ghost widths = { λ h k. width_at (S.Storage.room h.store) (spans_of h) k };
@@ -89,19 +91,16 @@ impl<S: Storage> Host for Laid<S> {
     ghost bits_end = { Prim.search rules };
 
     fn width(&self, name: usize) -> Result<usize, Refusal> {
-        spans::width_there(self.table.get(name), self.store.size())
+        self.lot(name).width()
     }
 
     fn number(&self, name: usize) -> Result<u32, Refusal> {
-        if name < self.numbers.len() {
-            Ok(self.numbers[name])
-        } else {
-            Err(Refusal::plain(Reason::NoSuchName))
-        }
+        let number = self.numbers.get(name).copied();
+        number.ok_or(Refusal::plain(Reason::NoSuchName))
     }
 
     fn read(&self, name: usize, offset: usize, count: usize) -> Result<u64, Refusal> {
-        let at = spans::part_there(self.table.get(name), self.store.size(), offset, count)?;
+        let at = self.lot(name).part(offset, count)?;
         Ok(self.store.get(at, count))
     }
 
@@ -114,7 +113,7 @@ impl<S: Storage> Host for Laid<S> {
         ensures stored { Changed (is_ok result) (place_in (spans_of self.old) name offset) count value (row_bit S.Storage.cell S.Storage.inner (S.Storage.cells self.old.store)) (row_bit S.Storage.cell S.Storage.inner (S.Storage.cells self.new.store)) }
         ensures places { spans_of self.new ≡ spans_of self.old }
     {
-        let at = spans::part_there(self.table.get(name), self.store.size(), offset, count)?;
+        let at = self.lot(name).part(offset, count)?;
         self.store.put(at, count, value);
         Ok(())
     }

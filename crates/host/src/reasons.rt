@@ -6,9 +6,9 @@ ghost use Rattle.std.specs.Prelude.{◌≡◌};
 #[derive(Clone, Copy, PartialEq, Eq, Debug)]
 pub enum Reason {
     /// 23: the host has no variable, or no number, of this name.
-    NoSuchName,
+    NoSuchName = 23,
     /// 24: the part is not 1 to 64 bits, or does not lie inside the variable.
-    PartOutside,
+    PartOutside = 24,
 }
 
 /// A refusal: why, and at which place of the input.
@@ -19,6 +19,7 @@ pub struct Refusal {
 }
 
 impl Refusal {
+    // Not a `From`: the name says at each call that no place is told.
     /// A refusal whose place is 0.
     pub fn plain(reason: Reason) -> Refusal
         ensures answer { result ≡ plain reason }
@@ -26,13 +27,11 @@ impl Refusal {
         Refusal { reason, place: 0 }
     }
 
+    // Not a `From` either: a refusal has two numbers, this and its place.
     /// The number by which the reason is known.
     pub fn number(&self) -> u8
         ensures number { result ≡ number_of self.now.reason }
     {
-        match self.reason {
-            Reason::NoSuchName => 23,
-            Reason::PartOutside => 24,
-        }
+        self.reason as u8
     }
 }

@@ -4,6 +4,7 @@ ghost use Rattle.host.specs.Parts.{Changed, Holds};
 ghost use Rattle.host.specs.Rows.{row_bit};
 
 /// A row of bits. A host is laid over one by `Laid`; the calls are for it alone.
+// A part is two plain numbers here: a type for it would be made by `Laid`'s check and taken apart by the next call.
 pub trait Storage {
     // How many bits there are.
     ghost room: { Self → ℕ };
@@ -32,4 +33,9 @@ pub trait Storage {
         requires inside { at + count ≤ room self.old }
         ensures room { room self.new ≡ room self.old }
         ensures stored { Changed true at count value (row_bit cell inner (cells self.old)) (row_bit cell inner (cells self.new)) };
+}
+
+/// A row of bits in which no two places are one bit of one cell.
+pub trait Exact: Storage {
+    ghost apart: { (p q : ℕ) → Self.cell p ≡ Self.cell q → Self.inner p ≡ Self.inner q → p ≡ q };
 }

@@ -1,22 +1,23 @@
 // Tables of places: worked out once, then one look for each name.
-ghost use Rattle.host.specs.Spans.{AllSound, InOrder};
-ghost use Rattle.std.specs.Prelude.{◌≡◌, length};
+ghost use Rattle.host.specs.Spans.{AllSound, InOrder, span_at};
+ghost use Rattle.std.specs.Prelude.{◌≡◌};
 
 use crate::spans::Span;
+use std::convert::AsSlice;
 
-// The places of the variables of a host, by name number.
+// The places of variables, by name number: kept in a `Vec`, or in an array.
 #[derive(Drop)]
-pub(crate) struct Table {
-    pub(crate) spans: Vec<Option<Span>>,
-    ghost sound: { AllSound spans.items },
-    ghost ordered: { InOrder spans.items },
+pub(crate) struct Table<P: AsSlice<Option<Span>>> {
+    pub(crate) spans: P,
+    ghost sound: { AllSound (P.items spans) },
+    ghost ordered: { InOrder (P.items spans) },
 }
 
-// The places of the at most 64 variables of a window.
-#[derive(Drop)]
-pub(crate) struct ShortTable {
-    pub(crate) spans: [Option<Span>; 64],
-    ghost full: { length spans ≡ 64 },
-    ghost sound: { AllSound spans },
-    ghost ordered: { InOrder spans },
+impl<P: AsSlice<Option<Span>>> Table<P> {
+    // The place of a variable.
+    pub(crate) fn get(&self, name: usize) -> Option<Span>
+        ensures answer { result ≡ span_at (P.items self.now.spans) name }
+    {
+        self.spans.as_slice().get(name).copied().flatten()
+    }
 }

@@ -1,32 +1,26 @@
 // A host that shows one variable of another host as variables.
-ghost use Rattle.std.specs.Prelude.{◌≡◌, ℕ, take, is_ok};
+ghost use Rattle.std.specs.Prelude.{◌≡◌, ℕ, ◌+◌, take, is_ok, true, MatchResult, Some};
 ghost use Rattle.host.specs.Hosts.{place_in};
-ghost use Rattle.host.specs.Parts.{Same, Written, part_refusal, refused_part, size};
+ghost use Rattle.host.specs.Parts.{Same, Written, inside, part_refusal, size};
 ghost use Rattle.host.specs.Refusals.{refusal};
-ghost use Rattle.host.specs.Spans.{bit_at, laid, span_at, width_at};
+ghost use Rattle.host.specs.Spans.{bit_at, laid, span_at, width_at, width_of};
 ghost use Rattle.std.proofs.Common.{rules};
 
 use crate::interface::Host;
 use crate::reasons::Refusal;
 use crate::spans;
-use crate::spans::Span;
-use crate::tables::ShortTable;
+use crate::spans::{Lot, Span};
+use crate::tables::Table;
 
-impl ShortTable {
+impl Table<[Option<Span>; 64]> {
     // The places of variables of the first 64 of these widths in a row of `room` bits.
-    fn new(room: usize, widths: &[usize]) -> ShortTable
+    // Beside the `new` of a host's table, as this one takes no memory and cannot fail.
+    fn new(room: usize, widths: &[usize]) -> Self
         ensures spans { (k : ℕ) → span_at result.spans k ≡ span_at (laid room 0 (take 64 widths.now)) k }
     {
         let mut spans: [Option<Span>; 64] = [None; 64];
         spans::lay(room, widths, &mut spans);
-        ShortTable { spans }
-    }
-
-    // The place of a variable.
-    fn get(&self, name: usize) -> Option<Span>
-        ensures answer { result ≡ span_at self.now.spans name }
-    {
-        if name < 64 { self.spans[name] } else { None }
+        Table { spans }
     }
 }
 
@@ -34,10 +28,7 @@ impl ShortTable {
 fn room_of<H: Host>(host: &H, name: usize) -> usize
     ensures room { result ≡ size (H.Host.widths host.now name) }
 {
-    match host.width(name) {
-        Ok(width) => width,
-        Err(_) => 0,
-    }
+    host.width(name).unwrap_or(0)
 }
 
 /// A window on one variable of the host below.
@@ -45,7 +36,7 @@ fn room_of<H: Host>(host: &H, name: usize) -> usize
 pub struct Window<H: Host> {
     below: H,
     name: usize,
-    table: ShortTable,
+    table: Table<[Option<Span>; 64]>,
 }
 
 impl<H: Host> Window<H> {
@@ -57,27 +48,34 @@ impl<H: Host> Window<H> {
         ensures name { result.name ≡ name }
         ensures spans { (k : ℕ) → span_at result.table.spans k ≡ span_at (laid (size (H.Host.widths below name)) 0 (take 64 widths.now)) k }
     {
-        let table = ShortTable::new(room_of(&below, name), widths);
+        let table = Table::new(room_of(&below, name), widths);
         Window { below, name, table }
     }
 
-    // How a part of a variable is refused that is not to be had.
-    fn refusal(&self, name: usize) -> Refusal
-        ensures answer { result ≡ refused_part (width_at (size (H.Host.widths self.now.below self.now.name)) self.now.table.spans name) }
+    // The place of a variable in the one that is shown.
+    fn lot(&self, name: usize) -> Lot
+        ensures span { result.span ≡ span_at self.now.table.spans name }
+        ensures room { result.room ≡ size (H.Host.widths self.now.below self.now.name) }
     {
-        spans::refusal_there(self.table.get(name), room_of(&self.below, self.name))
+        Lot {
+            span: self.table.get(name),
+            room: room_of(&self.below, self.name),
+        }
+    }
+
+    // Where a part of a variable begins in the one that is shown, as far as the table says.
+    fn part(&self, name: usize, offset: usize, count: usize) -> Result<usize, Refusal>
+        ensures place { MatchResult result (λ at. (at ≡ place_in self.now.table.spans name offset) × (inside (size (width_of (span_at self.now.table.spans name))) offset count ≡ true)) (λ e. Some e ≡ part_refusal (width_at (size (H.Host.widths self.now.below self.now.name)) self.now.table.spans name) offset count) }
+    {
+        let place = self.table.get(name).and_then(|s| s.part(offset, count));
+        place.ok_or_else(|| self.lot(name).refusal())
     }
 
     /// Gives the host below back.
     pub fn into_below(self) -> H
         ensures below { result ≡ self.below }
     {
-        let Window {
-            below,
-            name: _,
-            table: _,
-        } = self;
-        below
+        self.below
     }
 }
 
@@ -99,7 +97,7 @@ impl<H: Host> Host for Window<H> {
     ghost bits_end = { Prim.search rules };
 
     fn width(&self, name: usize) -> Result<usize, Refusal> {
-        spans::width_there(self.table.get(name), room_of(&self.below, self.name))
+        self.lot(name).width()
     }
 
     fn number(&self, name: usize) -> Result<u32, Refusal> {
@@ -107,13 +105,9 @@ impl<H: Host> Host for Window<H> {
     }
 
     fn read(&self, name: usize, offset: usize, count: usize) -> Result<u64, Refusal> {
-        let Some(at) = spans::part_of(self.table.get(name), offset, count) else {
-            return Err(self.refusal(name));
-        };
-        match self.below.read(self.name, at, count) {
-            Ok(part) => Ok(part),
-            Err(_) => Err(self.refusal(name)),
-        }
+        let at = self.part(name, offset, count)?;
+        let part = self.below.read(self.name, at, count);
+        part.map_err(|_| self.lot(name).refusal())
     }
 
     // The last three clauses are about the host below: no bit of it changes outside the part.
@@ -126,12 +120,8 @@ impl<H: Host> Host for Window<H> {
         ensures below_widths { Same (H.Host.widths self.old.below) (H.Host.widths self.new.below) }
         ensures places { (self.new.name ≡ self.old.name) × (self.new.table.spans ≡ self.old.table.spans) }
     {
-        let Some(at) = spans::part_of(self.table.get(name), offset, count) else {
-            return Err(self.refusal(name));
-        };
-        match self.below.write(self.name, at, count, value) {
-            Ok(()) => Ok(()),
-            Err(_) => Err(self.refusal(name)),
-        }
+        let at = self.part(name, offset, count)?;
+        let written = self.below.write(self.name, at, count, value);
+        written.map_err(|_| self.lot(name).refusal())
     }
 }

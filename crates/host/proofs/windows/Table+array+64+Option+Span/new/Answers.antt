@@ -2,7 +2,7 @@ use Rattle.std.proofs.Common.{◌≡◌, ℕ, List, length, take, Option, arith}
 use Rattle.host.specs.Spans.{laid}
 use Rattle.host.specs.declared.spans.Span.{Span}
 use Rattle.host.proofs.SpanLaws.{laid_order, laid_sound, noted, same_order, same_sound}
-use Rattle.host.proofs.tables.ShortTable.new.Goals as goal
+use Rattle.host.proofs.windows.Table+array+64+Option+Span.new.Goals as goal
 
 pub invariant_of-result : goal.invariant_of-result
 invariant_of-result c =
@@ -12,7 +12,6 @@ invariant_of-result c =
     let l : length noting ≡ 64 = omega arith in
     let p = noted room c.args.widths.now noting 64 l c.lay.ensures.spans in
     record {
-      full = l;
       sound = same_sound noting (laid room 0 ws) p (laid_sound room 0 ws);
       ordered = same_order noting (laid room 0 ws) p (laid_order room 0 ws);
     }

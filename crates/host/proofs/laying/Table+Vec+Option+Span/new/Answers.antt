@@ -5,7 +5,7 @@ use Rattle.std.specs.declared.alloc.Global.{Global}
 use Rattle.host.specs.Spans.{laid, span_at}
 use Rattle.host.specs.declared.spans.Span.{Span}
 use Rattle.host.proofs.SpanLaws.{laid_order, laid_sound, noted, same_order, same_sound}
-use Rattle.host.proofs.tables.Table.new.Goals as goal
+use Rattle.host.proofs.laying.Table+Vec+Option+Span.new.Goals as goal
 
 -- what the table holds once the places are noted in its memory
 places : (v : Vec (Option Span) Global) (noting : List (Option Span)) (room : ℕ) (ws : List ℕ) → length noting ≡ v.len → v.len ≡ length ws
