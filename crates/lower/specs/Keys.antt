@@ -1,8 +1,9 @@
 -- What the keys of the four pools mean, and how they are ordered: by a list of numbers that spells them, no two alike.
-use Rattle.std.specs.Prelude.{ℕ, ◌+◌, List, [], ◌∷◌, ◌++◌, ℤ, pos, negsuc}
+use Rattle.std.specs.Prelude.{ℕ, List, [], ◌∷◌, ◌++◌, ℤ, pos, negsuc}
 use Rattle.std.specs.declared.cmp.Ordering.{Ordering}
-use Rattle.pool.specs.Words.{by_word, stretch_of}
-use Rattle.lower.specs.declared.keys.Text.{Text}
+use Rattle.pool.specs.Words.{by_word}
+use Rattle.pool.specs.declared.runs.Run.{Run}
+use Rattle.pool.specs.Runs.{run_of, run_end}
 use Rattle.lower.specs.declared.keys.Bind.{Bind}
 use Rattle.lower.specs.declared.keys.Bind.TheVariants.{Literal, Txt}
 use Rattle.lower.specs.declared.keys.Base.{Base}
@@ -70,8 +71,8 @@ abbrev pub by_extent : Extent → Extent → Ordering
 by_extent x y = by_word (spell_extent x) (spell_extent y)
 
 -- what the keys mean over the bytes of texts, and how many of these they need
-abbrev pub text_in : Text → List ℕ → List ℕ
-text_in text bytes = stretch_of text.start text.len bytes
+abbrev pub text_in : Run → List ℕ → List ℕ
+text_in text bytes = run_of text bytes
 
 abbrev pub binding_of : Bind → List ℕ → Binding
 binding_of (Literal width value) bytes = literal width value
@@ -79,7 +80,7 @@ binding_of (Txt text) bytes = variable (text_in text bytes)
 
 abbrev pub binding_reach : Bind → ℕ
 binding_reach (Literal width value) = 0
-binding_reach (Txt text) = text.start + text.len
+binding_reach (Txt text) = run_end text
 
 abbrev pub start_of : Base → List ℕ → Start
 start_of Nothing bytes = nothing
@@ -88,7 +89,7 @@ start_of (Asked binding) bytes = asked binding.0
 
 abbrev pub start_reach : Base → ℕ
 start_reach Nothing = 0
-start_reach (Named text) = text.start + text.len
+start_reach (Named text) = run_end text
 start_reach (Asked binding) = 0
 
 abbrev pub worth_of : Value → List ℕ → Worth

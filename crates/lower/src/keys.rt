@@ -1,12 +1,8 @@
 // The keys of the four pools.
-use pool::{PBind, PVal};
+use pool::{PBind, PCWidth, PVal, Run, Word};
 
-/// A text: where its bytes begin among those that are stored, and how many they are.
-#[derive(Clone, Copy)]
-pub struct Text {
-    pub start: u16,
-    pub len: u16,
-}
+/// A text: a run of the bytes that are stored.
+pub type Text = Run;
 
 /// A binding: a literal, or a variable by its text.
 #[derive(Clone, Copy)]
@@ -17,6 +13,7 @@ pub enum Bind {
 
 /// What a bound starts from: nothing, a number by the text that names it, or the width of a binding for which the
 /// text asks.
+// Keys are ordered by these three cases; an `Option` around the last two would only be matched in two steps.
 #[derive(Clone, Copy)]
 pub enum Base {
     Nothing,
@@ -38,9 +35,5 @@ pub enum Width {
     Range(PVal, PVal),
 }
 
-/// A sum of widths of one concatenation: where their numbers begin among those that are stored, and how many they are.
-#[derive(Clone, Copy)]
-pub struct CWidth {
-    pub start: u16,
-    pub len: u16,
-}
+/// A sum of widths of one concatenation: a run of their numbers among those that are stored.
+pub type CWidth = Word<u16, PCWidth>;

@@ -76,14 +76,14 @@ fn values(rt: HostRuntime) {
 #[test]
 fn sums(rt: HostRuntime) {
     let numbers = [1u16, 2, 1, 2, 3];
-    let mut entries = [Entry::new(CWidth { start: 0, len: 0 }, ()); 2];
+    let mut entries = [Entry::new(CWidth::new(0, 0), ()); 2];
     let mut pool: Pool<CWidth, ()> = Pool::new(&mut entries);
-    let short = pool.insert(&numbers, CWidth { start: 0, len: 2 }, ());
-    let long = pool.insert(&numbers, CWidth { start: 2, len: 3 }, ());
+    let short = pool.insert(&numbers, CWidth::new(0, 2), ());
+    let long = pool.insert(&numbers, CWidth::new(2, 3), ());
     assert_eq!(rt; short.index(), 0);
     assert_eq!(rt; long.index(), 1);
     assert_eq!(rt;
-        pool.find(&numbers, CWidth { start: 2, len: 2 }, &numbers),
+        pool.find(&numbers, CWidth::new(2, 2), &numbers),
         Some(short)
     );
 }

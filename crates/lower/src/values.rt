@@ -12,23 +12,13 @@ use crate::keys::{Base, Value};
 use pool::{Key, Number, PVal};
 use std::cmp::Ordering;
 
-// A signed number as two: whether it is zero or more, and how far from zero or from -1.
-fn spelled(x: i32) -> (u8, u32)
-    ensures answer { spell_signed x ≡ result.0 ∷ result.1 ∷ [] }
-{
-    if x < 0 {
-        (0, (-1 - x) as u32)
-    } else {
-        (1, x as u32)
-    }
-}
-
+// Those below zero come first; on either side they are compared by how far from zero they are, so that -1 comes before -2. It is the order
+// in which signed numbers are spelled, and not that of `cmp`.
 fn compare_signed(x: i32, y: i32) -> Ordering
     ensures order { result ≡ by_signed x y }
 {
-    let (sign, size) = spelled(x);
-    let (other_sign, other_size) = spelled(y);
-    sign.cmp(&other_sign).then(size.cmp(&other_size))
+    let signs = y.is_negative().cmp(&x.is_negative());
+    signs.then(x.unsigned_abs().cmp(&y.unsigned_abs()))
 }
 
 impl Base {
@@ -37,22 +27,12 @@ impl Base {
         requires others { start_reach other ≤ length others.now }
         ensures order { result ≡ by_word (spell_start (start_of self own.now)) (spell_start (start_of other others.now)) }
     {
-        match self {
-            Base::Nothing => match other {
-                Base::Nothing => Ordering::Equal,
-                Base::Named(_) => Ordering::Less,
-                Base::Asked(_) => Ordering::Less,
-            },
-            Base::Named(text) => match other {
-                Base::Nothing => Ordering::Greater,
-                Base::Named(t) => text.compare(own, t, others),
-                Base::Asked(_) => Ordering::Less,
-            },
-            Base::Asked(binding) => match other {
-                Base::Nothing => Ordering::Greater,
-                Base::Named(_) => Ordering::Greater,
-                Base::Asked(b) => binding.index().cmp(&b.index()),
-            },
+        match (self, other) {
+            (Base::Nothing, Base::Nothing) => Ordering::Equal,
+            (Base::Named(text), Base::Named(t)) => text.of(own).cmp(t.of(others)),
+            (Base::Asked(binding), Base::Asked(b)) => binding.index().cmp(&b.index()),
+            (Base::Nothing, _) | (Base::Named(_), Base::Asked(_)) => Ordering::Less,
+            _ => Ordering::Greater,
         }
     }
 
@@ -93,18 +73,13 @@ impl Key for Value {
     ] };
 
     fn compare(&self, own: &[u8], other: &Value, others: &[u8]) -> Ordering {
-        match *self {
-            Value::Bitwidth(binding) => match *other {
-                Value::Bitwidth(b) => binding.index().cmp(&b.index()),
-                Value::Usize { base: _, x: _ } => Ordering::Less,
-            },
-            Value::Usize { base, x } => match *other {
-                Value::Bitwidth(_) => Ordering::Greater,
-                Value::Usize { base: b, x: y } => {
-                    let by_x = compare_signed(x, y);
-                    by_x.then(base.compare(own, b, others))
-                }
-            },
+        match (*self, *other) {
+            (Value::Bitwidth(binding), Value::Bitwidth(b)) => binding.index().cmp(&b.index()),
+            (Value::Bitwidth(_), Value::Usize { .. }) => Ordering::Less,
+            (Value::Usize { .. }, Value::Bitwidth(_)) => Ordering::Greater,
+            (Value::Usize { base, x }, Value::Usize { base: b, x: y }) => {
+                compare_signed(x, y).then_with(|| base.compare(own, b, others))
+            }
         }
     }
 

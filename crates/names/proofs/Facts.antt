@@ -9,9 +9,8 @@ use Rattle.pool.proofs.Entries.{length_keys, key_at}
 use Rattle.pool.proofs.Facts.{found_out}
 use Rattle.pool.proofs.Slots.{once}
 use Rattle.pool.specs.WordOrder.{word_orders}
-use Rattle.names.specs.declared.name.Name.{Name}
 use Rattle.names.specs.declared.table.NameTable.{NameTable}
-use Rattle.names.specs.Names.{names_in, text_in, text_end, total}
+use Rattle.names.specs.Names.{Name, names_in, text_in, text_end, total}
 use Rattle.names.specs.Tables.{names_of}
 
 -- where names can be found, none stands twice

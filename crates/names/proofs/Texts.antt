@@ -1,17 +1,12 @@
--- Texts: the whole of one, and how many bytes several have together.
+-- How many bytes texts have together.
 use Rattle.std.proofs.Common.{◌≡◌, ℕ, ◌+◌, Bool, true, false, cond, List, [], ◌∷◌, ◌++◌, length, sym, refl, ap, ◌∙◌, subst, add-zero, add_assoc, zero-add, arith}
-use Rattle.std.proofs.lemmas.List.{length-append, take_all}
+use Rattle.std.proofs.lemmas.List.{length-append}
 use Rattle.pool.specs.declared.entry.Entry.{Entry}
 use Rattle.pool.specs.Firsts.{known, with_key}
 use Rattle.pool.specs.Words.{by_word}
-use Rattle.names.specs.declared.intern.Interned.{Interned}
-use Rattle.names.specs.declared.name.Name.{Name}
+use Rattle.names.specs.declared.numbers.PName.{PName}
 use Rattle.names.specs.Inserted.{Inserted}
-use Rattle.names.specs.Names.{text_in, total, Grows}
-
--- a key over the whole of a text means the text
-pub whole : (text : List ℕ) → text_in (record { start = 0; len = length text }) text ≡ text
-whole text = take_all (length text) text (omega arith)
+use Rattle.names.specs.Names.{Name, total, Grows}
 
 -- one more text
 pub total_push : (texts : List (List ℕ)) (text : List ℕ) → total (texts ++ text ∷ []) ≡ total texts + length text
@@ -43,5 +38,5 @@ total_grows texts text = go (known by_word texts text)
     go false = let n = total_push texts text in (omega arith, omega arith)
 
 -- what an insertion leaves, in other words for what the memory then holds
-pub inserted_over : (before : List (List ℕ)) (stored : ℕ) (text : List ℕ) (r : Interned) (es fs : List (Entry Name (Unit {0}))) (bs cs : List ℕ) → es ≡ fs → bs ≡ cs → Inserted before stored text r fs cs → Inserted before stored text r es bs
-inserted_over before stored text r es fs bs cs e b i = subst (λ l. Inserted before stored text r l bs) (sym e) (subst (λ l. Inserted before stored text r fs l) (sym b) i)
+pub inserted_over : (before : List (List ℕ)) (stored : ℕ) (text : List ℕ) (name : PName) (used held : ℕ) (es fs : List (Entry Name (Unit {0}))) (bs cs : List ℕ) → es ≡ fs → bs ≡ cs → Inserted before stored text name used held fs cs → Inserted before stored text name used held es bs
+inserted_over before stored text name used held es fs bs cs e b i = subst (λ l. Inserted before stored text name used held l bs) (sym e) (subst (λ l. Inserted before stored text name used held fs l) (sym b) i)

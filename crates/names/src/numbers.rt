@@ -1,4 +1,4 @@
-// The numbers of names.
+// The numbers of names: a type of its own, as each pool has.
 use pool::Number;
 
 /// The number of a name.

@@ -62,6 +62,6 @@ impl NameTable {
         ensures text { result.now ≡ slice_index_or (names_of self.now) name.0 [] }
     {
         let key = self.entries_in_use()[name.0 as usize].key();
-        pool::stretch(self.bytes_in_use(), key.start as usize, key.len as usize)
+        key.run.of(self.bytes_in_use())
     }
 }

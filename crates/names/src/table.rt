@@ -14,6 +14,7 @@ pub const MOST_NAMES: usize = 256;
 pub const MOST_BYTES: usize = 16384;
 
 /// A table of names. Its first `used` entries and its first `stored` bytes are in use.
+// The memory is made once and filled, since no later call may fail for want of it and the pool works over lent slices.
 #[derive(Drop)]
 pub struct NameTable {
     pub(crate) entries: Vec<Entry<Name, ()>>,

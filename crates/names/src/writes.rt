@@ -17,7 +17,7 @@ impl NameTable {
     pub fn new(heap: Global) -> Result<NameTable, AllocError>
         ensures empty { IfOk result (λ t. names_of t ≡ []) }
     {
-        let free = Entry::new(Name { start: 0, len: 0 }, ());
+        let free = Entry::new(Name::new(0, 0), ());
         let entries = vec![in heap; free; MOST_NAMES]?;
         let bytes = vec![in heap; 0u8; MOST_BYTES]?;
         Ok(NameTable {
@@ -40,11 +40,12 @@ impl NameTable {
         ensures bytes_grow { Grows (total (names_of self.old)) (length text.now) (total (names_of self.new)) }
         ensures within { result.0 < length (names_of self.new) }
     {
-        let used = self.used;
-        let stored = self.stored;
-        let done = intern(&mut self.entries, used, &mut self.bytes, stored, text);
-        self.used = done.used;
-        self.stored = done.stored;
-        done.name
+        intern(
+            &mut self.entries,
+            &mut self.used,
+            &mut self.bytes,
+            &mut self.stored,
+            text,
+        )
     }
 }

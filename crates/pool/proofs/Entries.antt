@@ -1,6 +1,5 @@
 -- What entries hold, entry by entry.
-use Rattle.std.proofs.Common.{◌≡◌, ℕ, ◌-◌, ◌<◌, List, length, get_or, take, Ordering, sym, ap, ◌∙◌, subst, arith}
-use native.Mathlib.Nat.{sub-zero}
+use Rattle.std.proofs.Common.{◌≡◌, ℕ, ◌<◌, List, length, get_or, Ordering, ap, ◌∙◌, arith}
 use Rattle.std.proofs.lemmas.List.{get_or-map, length-map}
 use Rattle.pool.specs.declared.entry.Entry.{Entry}
 use Rattle.pool.specs.Held.{keys_of, places_of, key_in, Ordered}
@@ -32,7 +31,3 @@ module _ {K M P A : Type 0} (meaning : K → List P → A) (order : A → A → 
   pub key_in_at : (i : ℕ) (e f : Entry K M) (d : A) → i < length es → key_in (keys_of meaning ps es) (places_of es) i d ≡ meaning (get_or es (get_or es i e).place f).key ps
   key_in_at i e f d h =
       ap (λ (n : ℕ). get_or (keys_of meaning ps es) n d) (place_at es i e h) ∙ key_at meaning ps es (get_or es i e).place f d (place_within i e h)
-
--- what holds of the entries in use holds of them as they are lent, from index 0 on
-pub lent_in_use : {K M : Type 0} (P : List (Entry K M) → Type 0) (es : List (Entry K M)) (used : ℕ) → P (take used es) → P (take (used - 0) es)
-lent_in_use P es used h = subst (λ (n : ℕ). P (take n es)) (sym (sub-zero used)) h

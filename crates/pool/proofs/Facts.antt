@@ -1,36 +1,18 @@
 -- That keys can be found is a fact with one proof at most, so it comes out of its truncation.
-use Rattle.std.proofs.Common.{◌≡◌, ℕ, List, [], length, Ordering, Less, Equal, Greater, refl, ap, arith}
+use Rattle.std.proofs.Common.{ℕ, List, [], length, Ordering, refl, arith}
 use mathlib.Core.Bool.{Bool-set}
-use mathlib.Core.HLevel.{hedberg}
 use mathlib.Core.Logic.{∥∥₁_elim}
 use native.Mathlib.Bridge.{le_prop}
 use native.Mathlib.Nat.{ℕ_set}
-use Rattle.std.specs.Ordering.{ordering_index}
+use Rattle.std.specs.Ordering.{Ordering-set}
 use Rattle.pool.specs.declared.entry.Entry.{Entry}
 use Rattle.pool.specs.Held.{keys_of, places_of, Ordered, FindableIn, SoundIn}
-
-apart : {x y : Ordering} → (ordering_index x ≡ ordering_index y → ⊥) → Dec (x ≡ y)
-apart n = no (λ e. n (ap ordering_index e))
-
-ordering_discrete : Discrete Ordering
-ordering_discrete Less Less = yes (λ i. Less)
-ordering_discrete Less Equal = apart (λ e. omega arith)
-ordering_discrete Less Greater = apart (λ e. omega arith)
-ordering_discrete Equal Less = apart (λ e. omega arith)
-ordering_discrete Equal Equal = yes (λ i. Equal)
-ordering_discrete Equal Greater = apart (λ e. omega arith)
-ordering_discrete Greater Less = apart (λ e. omega arith)
-ordering_discrete Greater Equal = apart (λ e. omega arith)
-ordering_discrete Greater Greater = yes (λ i. Greater)
-
-ordering_set : IsSet Ordering
-ordering_set = hedberg ordering_discrete
 
 ordered_prop : {A : Type 0} (order : A → A → Ordering) (keys : List A) (places : List ℕ) → IsProp (Ordered order keys places)
 ordered_prop order keys places o p = λ i. record {
   long = ℕ_set (length places) (length keys) o.long p.long i;
   below = λ n h. le_prop (o.below n h) (p.below n h) i;
-  rising = λ n m d l h. ordering_set _ _ (o.rising n m d l h) (p.rising n m d l h) i;
+  rising = λ n m d l h. Ordering-set _ _ (o.rising n m d l h) (p.rising n m d l h) i;
   every = λ n h. Bool-set _ _ (o.every n h) (p.every n h) i;
 }
 

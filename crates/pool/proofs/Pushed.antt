@@ -1,5 +1,5 @@
 -- One more key: the slots stay sorted where its number goes in between the slots below it and those above.
-use Rattle.std.proofs.Common.{◌≡◌, ℕ, ◌+◌, ◌-◌, ◌<◌, ◌≤◌, true, false, ◌⊎◌, List, [], ◌∷◌, ◌++◌, length, get_or, is_some, Some, Ordering, Less, sym, refl, ap, ◌∙◌, subst, inl, inr, ⊎_elim, arith}
+use Rattle.std.proofs.Common.{◌≡◌, ℕ, ◌+◌, ◌-◌, ◌<◌, ◌≤◌, true, false, ◌⊎◌, List, [], ◌∷◌, ◌++◌, length, get_or, is_some, Some, Ordering, Less, sym, refl, ap, ◌∙◌, inl, inr, ⊎_elim, arith}
 use Rattle.std.proofs.lemmas.Bool.{cases_lt, cases_order}
 use Rattle.std.proofs.lemmas.List.{get_or_append_left, get_or_push, length_push}
 use Rattle.std.proofs.lemmas.List.Edits.{length-insert, get_or-insert_below, get_or-insert_at, get_or-insert_above}
@@ -56,42 +56,38 @@ module _ {A : Type 0} (order : A → A → Ordering) (laws : Orders order) (keys
   below' i h = go (cases_order i s)
     where
       go : (i ≡ s) ⊎ ((i < s) ⊎ (s < i)) → get_or places' i 0 < length keys'
-      go (inl e) = omega (arith, ap (λ (n : ℕ). get_or places' n 0) e, place_here, longer_keys)
-      go (inr (inl l)) = omega (arith, place_before i l, longer_keys, o.below i (omega arith))
-      go (inr (inr l)) =
-          let e : i - 1 + 1 ≡ i = omega arith in
-          omega (arith, place_after (i - 1) (omega arith), ap (λ (n : ℕ). get_or places' n 0) e, longer_keys, o.below (i - 1) (omega (arith, longer)))
-
-  two : (x y x' y' : A) → x' ≡ x → y' ≡ y → order x y ≡ Less → order x' y' ≡ Less
-  two x y x' y' p q e = ap (λ z. order z y') p ∙ ap (λ z. order x z) q ∙ e
+      go (inl e) = grind (arith, e, place_here, longer_keys)
+      go (inr (inl l)) = grind (arith, l, place_before i, longer_keys, o.below i)
+      go (inr (inr l)) = grind (arith, l, h, longer, place_after (i - 1), longer_keys, o.below (i - 1))
 
   rising' : (i j : ℕ) (d : A) → i < j → j < length places' → order (key_in keys' places' i d) (key_in keys' places' j d) ≡ Less
   rising' i j d l h = go (cases_order i s) (cases_order j s)
     where
       back : (n : ℕ) → s < n → n < length places' → key_in keys' places' n d ≡ key_in keys places (n - 1) d
-      back n t u =
-          let e : n - 1 + 1 ≡ n = omega arith in
-          subst (λ (m : ℕ). key_in keys' places' m d ≡ key_in keys places (n - 1) d) e (key_after (n - 1) d (omega arith) (omega (arith, longer)))
+      back n t u = grind (arith, t, u, longer, key_after (n - 1) d)
 
       at : (n : ℕ) → n ≡ s → key_in keys' places' n d ≡ k
       at n e = ap (λ (m : ℕ). key_in keys' places' m d) e ∙ key_here d
 
+      after : (n : ℕ) → s ≤ n → n < length places → order k (key_in keys places n d) ≡ Less
+      after n t u = turned_back order laws keys places o (key_in keys places n d) k (over n d t u)
+
       go : (i ≡ s) ⊎ ((i < s) ⊎ (s < i)) → (j ≡ s) ⊎ ((j < s) ⊎ (s < j)) → order (key_in keys' places' i d) (key_in keys' places' j d) ≡ Less
+      go (inl p) (inr (inr q)) = grind (arith, h, longer, q, at i p, back j q h, after (j - 1))
+      go (inr (inl p)) (inl q) = grind (arith, p, key_before i d p, at j q, below i d p)
+      go (inr (inl p)) (inr (inl q)) = grind (arith, l, p, q, key_before i d p, key_before j d q, o.rising i j d)
+      go (inr (inl p)) (inr (inr q)) = grind (arith, h, longer, p, q, key_before i d p, back j q h, o.rising i (j - 1) d)
+      go (inr (inr p)) (inr (inr q)) = grind (arith, l, h, longer, p, q, back i p (omega arith), back j q h, o.rising (i - 1) (j - 1) d)
       go (inl p) (inl q) = absurd (omega arith)
       go (inl p) (inr (inl q)) = absurd (omega arith)
-      go (inl p) (inr (inr q)) = two k (key_in keys places (j - 1) d) (key_in keys' places' i d) (key_in keys' places' j d) (at i p) (back j q h) (turned_back order laws keys places o (key_in keys places (j - 1) d) k (over (j - 1) d (omega arith) (omega (arith, longer))))
-      go (inr (inl p)) (inl q) = two (key_in keys places i d) k (key_in keys' places' i d) (key_in keys' places' j d) (key_before i d p) (at j q) (below i d p)
-      go (inr (inl p)) (inr (inl q)) = two (key_in keys places i d) (key_in keys places j d) (key_in keys' places' i d) (key_in keys' places' j d) (key_before i d p) (key_before j d q) (o.rising i j d l (omega arith))
-      go (inr (inl p)) (inr (inr q)) = two (key_in keys places i d) (key_in keys places (j - 1) d) (key_in keys' places' i d) (key_in keys' places' j d) (key_before i d p) (back j q h) (o.rising i (j - 1) d (omega arith) (omega (arith, longer)))
       go (inr (inr p)) (inl q) = absurd (omega arith)
       go (inr (inr p)) (inr (inl q)) = absurd (omega arith)
-      go (inr (inr p)) (inr (inr q)) = two (key_in keys places (i - 1) d) (key_in keys places (j - 1) d) (key_in keys' places' i d) (key_in keys' places' j d) (back i p (omega arith)) (back j q h) (o.rising (i - 1) (j - 1) d (omega arith) (omega (arith, longer)))
 
   every' : (n : ℕ) → n < length keys' → stands places' n ≡ true
   every' n h = ⊎_elim old new (cases_lt n (length keys))
     where
       new : length keys ≤ n → stands places' n ≡ true
-      new l = let e : length keys ≡ n = omega (arith, longer_keys) in stands_at places' s n (omega (arith, longer)) (place_here ∙ e)
+      new l = stands_at places' s n (grind (arith, longer)) (grind (arith, l, h, longer_keys, place_here))
 
       old : n < length keys → stands places' n ≡ true
       old l = ⊎_elim before after (cases_lt p.0 s)

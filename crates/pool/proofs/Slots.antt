@@ -1,12 +1,15 @@
 -- The sorted slots: what a comparison tells of the other slots, what a search through them means for the numbers, and how a key is added.
-use Rattle.std.proofs.Common.{◌≡◌, ℕ, zero, suc, ◌+◌, ◌<◌, ◌≤◌, Bool, true, false, ◌||◌, eqb, ◌⊎◌, List, [], ◌∷◌, length, get_or, Some, None, Ordering, Less, Equal, Greater, sym, refl, ap, ◌∙◌, subst, inl, inr, ⊎_elim, arith}
+use Rattle.std.proofs.Common.{◌≡◌, ℕ, zero, suc, ◌+◌, ◌<◌, ◌≤◌, Bool, true, false, ◌||◌, eqb, ◌⊎◌, List, [], ◌∷◌, length, get_or, Some, None, Ordering, Less, Equal, Greater, sym, refl, ap, ◌∙◌, inl, inr, ⊎_elim, arith}
 use Rattle.std.proofs.lemmas.Bool.{cases_lt, cases_order, false≢true, eqb-true, eq-eqb}
 use Rattle.std.proofs.lemmas.List.{get_or_default}
+use Rattle.std.specs.Option.{option_map}
 use Rattle.std.specs.Ordering.{ordering_reverse, is_eq}
+use Rattle.std.specs.Prelude.{Result, Ok, Err, IfSome}
+use Rattle.std.specs.Result.{result_ok}
 use Rattle.pool.specs.Order.{Orders}
 use Rattle.pool.specs.Firsts.{number_in, Once}
-use Rattle.pool.specs.Held.{key_in, stands, Ordered, Below, Above, Over}
-use Rattle.pool.proofs.Firsts.{number_first, number_none}
+use Rattle.pool.specs.Held.{key_in, stands, Ordered, Below, Over, Sought}
+use Rattle.pool.proofs.Firsts.{number_first, number_none, number_within}
 
 -- a number stands in a list where it is the element at some index
 pub stands_at : (xs : List ℕ) (i n : ℕ) → i < length xs → get_or xs i 0 ≡ n → stands xs n ≡ true
@@ -31,12 +34,6 @@ not_greater_equal e = false≢true (ap is_eq e)
 
 not_less_equal : Less ≡ Equal → ⊥
 not_less_equal e = false≢true (ap is_eq e)
-
--- the answer where it is neither of the other two
-pub greater : (o : Ordering) → (o ≡ Less → ⊥) → (o ≡ Equal → ⊥) → o ≡ Greater
-greater Less l e = absurd (l refl)
-greater Equal l e = absurd (e refl)
-greater Greater l e = refl
 
 module _ {A : Type 0} (order : A → A → Ordering) (laws : Orders order) (keys : List A) (places : List ℕ) (o : Ordered order keys places) where
   -- the default does not matter at a slot in use
@@ -82,42 +79,11 @@ module _ {A : Type 0} (order : A → A → Ordering) (laws : Orders order) (keys
   module _ (k : A) where
     -- a key below k has below k all keys in the slots up to its own
     pub below_more : (m : ℕ) (d : A) → m < length places → order (key_in keys places m d) k ≡ Less → Below order keys places (m + 1) k
-    below_more m d h less j e l = ⊎_elim before here (cases_lt j m)
-      where
-        less' : order (key_in keys places m e) k ≡ Less
-        less' = rw (key_in_default m d e h) at less
-
-        before : j < m → order (key_in keys places j e) k ≡ Less
-        before b = laws.chain (key_in keys places j e) (key_in keys places m e) k (o.rising j m e b h) less'
-
-        here : m ≤ j → order (key_in keys places j e) k ≡ Less
-        here b = let q : m ≡ j = omega arith in subst (λ (x : ℕ). order (key_in keys places x e) k ≡ Less) q less'
-
-    -- a key that is not below k has none below k in the slots from its own on
-    pub above_from : (m : ℕ) (d : A) → m < length places → (order (key_in keys places m d) k ≡ Less → ⊥) → Above order keys places m k
-    above_from m d h not-less j e l in' less = ⊎_elim after here (cases_lt m j)
-      where
-        same : key_in keys places m e ≡ key_in keys places m d
-        same = key_in_default m e d h
-
-        after : m < j → ⊥
-        after b = not-less (subst (λ (x : A). order x k ≡ Less) same (laws.chain (key_in keys places m e) (key_in keys places j e) k (o.rising m j e b in') less))
-
-        here : j ≤ m → ⊥
-        here b = let q : j ≡ m = omega arith in not-less (subst (λ (x : A). order x k ≡ Less) same (subst (λ (x : ℕ). order (key_in keys places x e) k ≡ Less) q less))
+    below_more m d h less j e l = grind (arith, h, less, l, key_in_default m d e h, o.rising j m e, laws.chain (key_in keys places j e) (key_in keys places m e) k)
 
     -- a key above k has above k all keys in the slots from its own on
     pub over_from : (m : ℕ) (d : A) → m < length places → order (key_in keys places m d) k ≡ Greater → Over order keys places m k
-    over_from m d h more j e l in' = ⊎_elim after here (cases_lt m j)
-      where
-        more' : order (key_in keys places m e) k ≡ Greater
-        more' = rw (key_in_default m d e h) at more
-
-        after : m < j → order (key_in keys places j e) k ≡ Greater
-        after b = turned k (key_in keys places j e) (laws.chain k (key_in keys places m e) (key_in keys places j e) (turned_back (key_in keys places m e) k more') (o.rising m j e b in'))
-
-        here : j ≤ m → order (key_in keys places j e) k ≡ Greater
-        here b = let q : m ≡ j = omega arith in subst (λ (x : ℕ). order (key_in keys places x e) k ≡ Greater) q more'
+    over_from m d h more j e l in' = turned k (key_in keys places j e) (grind (arith, l, in', key_in_default m d e h, turned_back (key_in keys places m d) k more, o.rising m j e, laws.chain k (key_in keys places m e) (key_in keys places j e)))
 
     -- the number in a slot whose key equals k is that of k
     pub number_found : (i : ℕ) (d : A) → i < length places → order (key_in keys places i d) k ≡ Equal → number_in order keys k ≡ Some (get_or places i 0)
@@ -146,3 +112,12 @@ module _ {A : Type 0} (order : A → A → Ordering) (laws : Orders order) (keys
 
             after : i ≤ p.0 → ⊥
             after b = not_greater_equal (sym (over p.0 k b p.1) ∙ at)
+
+  -- the answer of a look-up is the number of the key, where it has one
+  pub sought_number : {N : Type 0} (number : N → ℕ) (k : A) (r : Result N ℕ) → Sought order number keys places k r → option_map number (result_ok r) ≡ number_in order keys k
+  sought_number number k (Ok n) s = sym s
+  sought_number number k (Err i) s = sym (number_unknown k i s.1 s.2)
+
+  pub sought_within : {N : Type 0} (number : N → ℕ) (k : A) (m : ℕ) → length keys ≡ m → (r : Result N ℕ) → Sought order number keys places k r → IfSome (result_ok r) (λ n. number n < m)
+  sought_within number k m long (Ok n) s = omega (arith, number_within order keys k (number n) s, long)
+  sought_within number k m long (Err i) s = tt

@@ -1,5 +1,5 @@
 -- What entries hold.
-use Rattle.std.specs.Prelude.{◌≡◌, ℕ, ◌<◌, ◌≤◌, Bool, true, false, ◌||◌, List, [], ◌∷◌, map, length, slice_index_or, Some, Ok, Err, Result, ◌==◌, ◌≢◌, slice_index}
+use Rattle.std.specs.Prelude.{◌≡◌, ℕ, ◌<◌, ◌≤◌, Bool, true, false, ◌||◌, List, [], ◌∷◌, map, length, slice_index_or, Some, Ok, Err, Result, ◌==◌, slice_index}
 use Rattle.std.specs.declared.cmp.Ordering.TheVariants.{Less, Greater}
 use Rattle.std.specs.declared.cmp.Ordering.{Ordering}
 use Rattle.pool.specs.Firsts.{number_in}
@@ -40,10 +40,6 @@ pub record Ordered {A : Type 0} (order : A → A → Ordering) (keys : List A) (
 -- each key in the slots before i is below k
 abbrev pub Below : {A : Type 0} → (A → A → Ordering) → List A → List ℕ → ℕ → A → Type 0
 Below {A} order keys places i k = (j : ℕ) (d : A) → j < i → order (key_in keys places j d) k ≡ Less
-
--- no key in the slots from i on is below k
-abbrev pub Above : {A : Type 0} → (A → A → Ordering) → List A → List ℕ → ℕ → A → Type 0
-Above {A} order keys places i k = (j : ℕ) (d : A) → i ≤ j → j < length places → order (key_in keys places j d) k ≢ Less
 
 -- each key in the slots from i on is above k
 abbrev pub Over : {A : Type 0} → (A → A → Ordering) → List A → List ℕ → ℕ → A → Type 0

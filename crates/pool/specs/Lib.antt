@@ -7,3 +7,4 @@ pub mod Stored
 pub mod Words
 pub mod WordOrder
 pub mod Stretches
+pub mod Runs

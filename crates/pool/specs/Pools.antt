@@ -1,5 +1,5 @@
 -- What a pool holds.
-use Rattle.std.specs.Prelude.{ℕ, ◌≤◌, List, length, take}
+use Rattle.std.specs.Prelude.{ℕ, List, take}
 use Rattle.std.specs.declared.cmp.Ordering.{Ordering}
 use Rattle.pool.specs.declared.entry.Entry.{Entry}
 use Rattle.pool.specs.declared.pool.Pool.{Pool}
@@ -8,10 +8,6 @@ use Rattle.pool.specs.Held.{keys_of, marks_of, FindableIn}
 -- all entries that were lent to the pool
 abbrev pub entries_of : {K M : Type 0} → Pool K M → List (Entry K M)
 entries_of pool = pool.entries.now
-
--- no more entries are in use than there are, and each number fits 16 bits
-abbrev pub Fits : {K M : Type 0} → Pool K M → Type 0
-Fits pool = (pool.used ≤ length (entries_of pool)) × (length (entries_of pool) ≤ 65536)
 
 -- the entries in use, by number
 abbrev pub in_use : {K M : Type 0} → Pool K M → List (Entry K M)

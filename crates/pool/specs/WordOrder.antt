@@ -1,14 +1,15 @@
 -- The orders that keys are made of obey the laws.
-use Rattle.std.specs.Prelude.{◌≡◌, ℕ, ◌<◌, List, [], ◌∷◌, refl}
+use Rattle.std.specs.Prelude.{◌≡◌, ℕ, List, refl}
 use Rattle.std.specs.declared.cmp.Ordering.TheVariants.{Less, Equal, Greater}
 use Rattle.std.specs.declared.cmp.Ordering.{Ordering}
-use Rattle.std.proofs.Common.{sym, ap, ap₂, subst}
+use Rattle.std.proofs.Common.{sym, ap}
 use Rattle.std.proofs.lemmas.Bool.{false≢true}
-use Rattle.std.specs.Ordering.{is_eq, is_lt, ordering_reverse, ordering_then, MatchOrdering}
-use Rattle.std.specs.Cmp.{IsTotalOrder, ranks, nat_cmp_total}
+use Rattle.std.specs.Ordering.{is_lt, ordering_reverse}
+use Rattle.std.specs.Cmp.{IsTotalOrder, nat_cmp_total}
+use Rattle.std.specs.Cmp.Lexicographic.{slice_cmp, lists_total}
+use Rattle.std.specs.FinMap.{nat_cmp-IsAntisymmetric, slice_cmp-IsAntisymmetric}
 use Rattle.pool.specs.Order.{Orders}
 use Rattle.pool.specs.Words.{by_number, by_word}
-use Rattle.std.specs.Cmp.Lexicographic.{lists_total}
 
 -- an answer that is its own reverse
 level : (r : Ordering) → r ≡ ordering_reverse r → r ≡ Equal
@@ -16,23 +17,19 @@ level Less e = absurd (false≢true (sym (ap is_lt e)))
 level Equal e = refl
 level Greater e = absurd (false≢true (ap is_lt e))
 
--- a lawful order that answers `Equal` for equals alone
+-- a total order that tells any two apart
 orders_from : {A : Type 0} {R : A → A → Ordering} (o : IsTotalOrder R) → ((x y : A) → R x y ≡ Equal → x ≡ y) → Orders R
-orders_from {R = R} o same = record { flip = o.antisymm; chain = o.trans; itself = λ x. level (R x x) (o.antisymm x x); same = same }
+orders_from {R = R} o apart = record { flip = o.antisymm; chain = o.trans; itself = λ x. level (R x x) (o.antisymm x x); same = apart }
+
+-- lists by such an order of their elements
+pub list_orders : {A : Type 0} {R : A → A → Ordering} → IsTotalOrder R → ((x y : A) → R x y ≡ Equal → x ≡ y) → Orders (slice_cmp R)
+list_orders o apart = orders_from (lists_total o) (slice_cmp-IsAntisymmetric apart)
 
 same_number : (x y : ℕ) → by_number x y ≡ Equal → x ≡ y
-same_number x y e = subst (λ r. MatchOrdering r (x < y) (x ≡ y) (y < x)) e (ranks x y)
+same_number = nat_cmp-IsAntisymmetric
 
 same_word : (xs ys : List ℕ) → by_word xs ys ≡ Equal → xs ≡ ys
-same_word [] [] e = refl
-same_word [] (y ∷ ys) e = absurd (false≢true (ap is_eq e))
-same_word (x ∷ xs) [] e = absurd (false≢true (ap is_eq e))
-same_word (x ∷ xs) (y ∷ ys) e = go (by_number x y) refl e (same_word xs ys)
-  where
-    go : (r : Ordering) → by_number x y ≡ r → ordering_then r (by_word xs ys) ≡ Equal → (by_word xs ys ≡ Equal → xs ≡ ys) → ◌≡◌ {A = List ℕ} (x ∷ xs) (y ∷ ys)
-    go Less p h rest = absurd (false≢true (ap is_eq h))
-    go Equal p h rest = ap₂ (λ z zs. z ∷ zs) (same_number x y p) (rest h)
-    go Greater p h rest = absurd (false≢true (ap is_eq h))
+same_word = slice_cmp-IsAntisymmetric same_number
 
 pub number_orders : Orders by_number
 number_orders = orders_from nat_cmp_total same_number

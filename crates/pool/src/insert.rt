@@ -3,8 +3,8 @@ ghost use Rattle.std.specs.Prelude.{◌≡◌, ℕ, ◌+◌, ◌<◌, ◌≤◌,
 ghost use Rattle.pool.specs.declared.entry.Entry.{Entry as AnEntry};
 ghost use Rattle.pool.specs.Firsts.{known, number_in, with_key, firsts, Once};
 ghost use Rattle.pool.specs.Moved.{Shifted, Added};
-ghost use Rattle.pool.specs.Pools.{entries_of, Fits, pool_keys, pool_marks, Sound};
-ghost use Rattle.pool.specs.Stored.{parts_of, PartsFit, stored};
+ghost use Rattle.pool.specs.Pools.{entries_of, pool_keys, pool_marks, Sound};
+ghost use Rattle.pool.specs.Stored.{parts_of, stored};
 
 use crate::entry::Entry;
 use crate::key::{Key, Number};
@@ -20,23 +20,18 @@ impl<'a, K: Key, M: Copy> Pool<'a, K, M> {
         ensures used { self.new.used ≡ self.old.used }
         ensures lent { self.new.entries.ghost_name ≡ self.old.entries.ghost_name }
     {
-        let mut at = self.used;
-        while at > slot {
-            let place = self.entries[at - 1].place;
-            self.entries[at].place = place;
-            at -= 1;
+        for at in (slot..self.used).rev() {
+            self.entries[at + 1].place = self.entries[at].place;
         }
     }
 
     // Gives the key the next number, which goes into the slot.
     fn put(&mut self, slot: usize, key: K, marks: M) -> K::Number
-        requires fits { Fits self.old }
         requires slot { slot ≤ self.old.used }
         requires room { self.old.used < length (entries_of self.old) }
         ensures number { K.Number.Number.number result ≡ self.old.used }
         ensures used { self.new.used ≡ self.old.used + 1 }
         ensures added { Added slot self.old.used key marks (entries_of self.old) (entries_of self.new) }
-        ensures fits { Fits self.new }
         ensures lent { self.new.entries.ghost_name ≡ self.old.entries.ghost_name }
     {
         self.shift(slot);
@@ -48,11 +43,11 @@ impl<'a, K: Key, M: Copy> Pool<'a, K, M> {
         K::Number::from_index(used as u16)
     }
 
+    // What stays of the lent memory is said by every call that changes some of it, in clauses that a caller cites one by one.
     /// Inserts a key that stands over the parts of the pool's own keys. A known key keeps its marks, and nothing changes; an unknown one
     /// takes the next number and the marks. It compares the key about log2 of the entries times; an unknown one also moves up the slots of
     /// the larger keys.
     pub fn insert(&mut self, parts: &[K::Part], key: K, marks: M) -> K::Number
-        requires fits { Fits self.old }
         requires sound { Sound K.Key.order K.Key.meaning K.Key.reach parts.now self.old }
         requires own { K.Key.reach key ≤ length parts.now }
         requires room { known K.Key.order (pool_keys K.Key.meaning parts.now self.old) (K.Key.meaning key parts.now) ≡ false → self.old.used < length (entries_of self.old) }
@@ -68,10 +63,9 @@ impl<'a, K: Key, M: Copy> Pool<'a, K, M> {
         ensures elsewhere { (i : ℕ) (d : AnEntry K M) → self.new.used ≤ i → slice_index_or (entries_of self.new) i d ≡ slice_index_or (entries_of self.old) i d }
         ensures long { length (entries_of self.new) ≡ length (entries_of self.old) }
         ensures lent { self.new.entries.ghost_name ≡ self.old.entries.ghost_name }
-        ensures fits { Fits self.new }
         ensures sound { Sound K.Key.order K.Key.meaning K.Key.reach parts.now self.new }
     {
-        match self.seek(parts, &key, parts) {
+        match self.seek(parts, key, parts) {
             Ok(number) => number,
             Err(slot) => self.put(slot, key, marks),
         }
@@ -86,11 +80,9 @@ impl<'a, K: Key, M: Copy> Pool<'a, K, M> {
         own: &[K::Part],
         marks: M,
     ) -> K::Number
-        requires fits { Fits self.old }
         requires sound { Sound K.Key.order K.Key.meaning K.Key.reach (stored parts.old) self.old }
         requires own { K.Key.reach key ≤ length own.now }
         requires room { known K.Key.order (pool_keys K.Key.meaning (stored parts.old) self.old) (K.Key.meaning key own.now) ≡ false → self.old.used < length (entries_of self.old) }
-        requires parts_fit { PartsFit parts.old }
         requires parts_room { known K.Key.order (pool_keys K.Key.meaning (stored parts.old) self.old) (K.Key.meaning key own.now) ≡ false → parts.old.used + length own.now ≤ length (parts_of parts.old) }
         ensures number { number_in K.Key.order (pool_keys K.Key.meaning (stored parts.new) self.new) (K.Key.meaning key own.now) ≡ Some (K.Number.Number.number result) }
         ensures within { K.Number.Number.number result < self.new.used }
@@ -104,7 +96,6 @@ impl<'a, K: Key, M: Copy> Pool<'a, K, M> {
         ensures elsewhere { (i : ℕ) (d : AnEntry K M) → self.new.used ≤ i → slice_index_or (entries_of self.new) i d ≡ slice_index_or (entries_of self.old) i d }
         ensures long { length (entries_of self.new) ≡ length (entries_of self.old) }
         ensures lent { self.new.entries.ghost_name ≡ self.old.entries.ghost_name }
-        ensures fits { Fits self.new }
         ensures sound { Sound K.Key.order K.Key.meaning K.Key.reach (stored parts.new) self.new }
         ensures stored { stored parts.new ≡ (if known K.Key.order (pool_keys K.Key.meaning (stored parts.old) self.old) (K.Key.meaning key own.now) then stored parts.old else stored parts.old ++ own.now) }
         ensures parts_used { parts.new.used ≡ (if known K.Key.order (pool_keys K.Key.meaning (stored parts.old) self.old) (K.Key.meaning key own.now) then parts.old.used else parts.old.used + length own.now) }
@@ -113,9 +104,8 @@ impl<'a, K: Key, M: Copy> Pool<'a, K, M> {
         ensures parts_elsewhere { (i : ℕ) (d : K.Part) → parts.new.used ≤ i → slice_index_or (parts_of parts.new) i d ≡ slice_index_or (parts_of parts.old) i d }
         ensures parts_long { length (parts_of parts.new) ≡ length (parts_of parts.old) }
         ensures parts_lent { parts.new.parts.ghost_name ≡ parts.old.parts.ghost_name }
-        ensures parts_fit { PartsFit parts.new }
     {
-        match self.seek(parts.stored(), &key, own) {
+        match self.seek(parts.stored(), key, own) {
             Ok(known) => known,
             Err(slot) => {
                 let from = parts.store(own);

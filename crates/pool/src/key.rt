@@ -9,6 +9,7 @@ use std::cmp::Ordering;
 pub trait Number: Copy {
     ghost number: { Self → ℕ };
 
+    // Named, and not a `From`: a number of sixteen bits may be other things than an index.
     fn from_index(index: u16) -> Self
         ensures number { number result ≡ index };
 
@@ -35,6 +36,7 @@ pub trait Key: Copy {
     // How many parts there have to be for the key to mean anything.
     ghost reach: { Self → ℕ };
 
+    // Keys come apart from the parts that they stand over, here and in the pool's calls, since parts are lent anew with each call.
     /// Compares this key, over its own parts, with another over the others.
     fn compare(&self, own: &[Self::Part], other: &Self, others: &[Self::Part]) -> Ordering
         requires own { reach self.now ≤ length own.now }

@@ -1,6 +1,6 @@
 // A store that was left over a slice of parts, and taken up again.
 ghost use Rattle.std.specs.Prelude.{◌≡◌, ◌<◌, ◌≤◌, length, take};
-ghost use Rattle.pool.specs.Stored.{parts_of, PartsFit, stored};
+ghost use Rattle.pool.specs.Stored.{parts_of, stored};
 
 use crate::parts::Parts;
 
@@ -13,7 +13,6 @@ impl<'a, P: Copy> Parts<'a, P> {
         ensures stored { stored result ≡ take used parts.old }
         ensures same { parts_of result ≡ parts.old }
         ensures lent { result.parts.ghost_name ≡ parts.entry.ghost_name }
-        ensures fits { PartsFit result }
     {
         Parts { parts, used }
     }

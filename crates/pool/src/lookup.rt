@@ -6,7 +6,7 @@ ghost use Rattle.pool.specs.Held.{keys_of, SoundIn};
 
 use crate::entry::Entry;
 use crate::key::Key;
-use crate::slot::seek_in;
+use crate::slot::Search;
 
 /// The number of the key among entries that a pool has in use and has lent back, or nothing where the key is unknown. It finds as `find`
 /// does, where the entries may only be read.
@@ -21,8 +21,12 @@ pub fn find_in<K: Key, M: Copy>(
     ensures number { option_map K.Number.Number.number result ≡ number_in K.Key.order (keys_of K.Key.meaning parts.now entries.now) (K.Key.meaning key own.now) }
     ensures within { IfSome result (λ n. K.Number.Number.number n < length entries.now) }
 {
-    match seek_in(entries, parts, &key, own) {
-        Ok(number) => Some(number),
-        Err(_) => None,
+    Search {
+        entries,
+        parts,
+        key,
+        own,
     }
+    .seek()
+    .ok()
 }

@@ -1,4 +1,5 @@
-// The number types, one for each pool, so that the number of one pool is never taken for that of another.
+// The number types, one for each pool, so that the number of one pool is never taken for that of another. The impls are written out one by
+// one, since an impl by a macro is refused.
 use crate::key::Number;
 
 /// The number of a binding.

@@ -1,7 +1,7 @@
 // Making a pool, and what is read of it by number.
 ghost use Rattle.std.specs.Prelude.{◌≡◌, ◌<◌, ◌≤◌, List, [], length, take, slice_index_or};
 ghost use Rattle.pool.specs.declared.entry.Entry.{Entry as AnEntry};
-ghost use Rattle.pool.specs.Pools.{entries_of, Fits, in_use, pool_keys, Sound};
+ghost use Rattle.pool.specs.Pools.{entries_of, in_use, pool_keys, Sound};
 
 use crate::entry::Entry;
 use crate::key::{Key, Number};
@@ -15,7 +15,6 @@ impl<'a, K: Key, M: Copy> Pool<'a, K, M> {
         ensures keys { (ps : List K.Part) → pool_keys K.Key.meaning ps result ≡ [] }
         ensures same { entries_of result ≡ entries.old }
         ensures lent { result.entries.ghost_name ≡ entries.entry.ghost_name }
-        ensures fits { Fits result }
         ensures sound { (ps : List K.Part) → Sound K.Key.order K.Key.meaning K.Key.reach ps result }
     {
         Pool { entries, used: 0 }
@@ -29,7 +28,6 @@ impl<'a, K: Key, M: Copy> Pool<'a, K, M> {
         ensures in_use { in_use result ≡ take used entries.old }
         ensures same { entries_of result ≡ entries.old }
         ensures lent { result.entries.ghost_name ≡ entries.entry.ghost_name }
-        ensures fits { Fits result }
     {
         Pool { entries, used }
     }
@@ -43,7 +41,6 @@ impl<'a, K: Key, M: Copy> Pool<'a, K, M> {
 
     /// The entries in use, from number 0 on: a walk through them follows the numbers.
     pub fn walk(&self) -> &[Entry<K, M>]
-        requires fits { Fits self.now }
         ensures entries { result.now ≡ in_use self.now }
     {
         &self.entries[0..self.used]
@@ -51,7 +48,6 @@ impl<'a, K: Key, M: Copy> Pool<'a, K, M> {
 
     /// The number of the entry at the index.
     pub fn number(&self, index: usize) -> K::Number
-        requires fits { Fits self.now }
         requires used { index < self.now.used }
         ensures number { K.Number.Number.number result ≡ index }
     {
@@ -60,12 +56,9 @@ impl<'a, K: Key, M: Copy> Pool<'a, K, M> {
 
     /// The key that has the number.
     pub fn key(&self, number: K::Number) -> K
-        requires fits { Fits self.now }
         requires used { K.Number.Number.number number < self.now.used }
         ensures key { (d : AnEntry K M) → result ≡ (slice_index_or (entries_of self.now) (K.Number.Number.number number) d).key }
     {
-        let at = number.index();
-        let index = at as usize;
-        self.walk()[index].key
+        self.walk()[number.index() as usize].key
     }
 }

@@ -3,7 +3,7 @@ ghost use Rattle.std.specs.Prelude.{◌≡◌, ℕ, ◌+◌, ◌<◌, ◌≤◌,
 ghost use Rattle.pool.specs.declared.entry.Entry.{Entry as AnEntry};
 ghost use Rattle.pool.specs.Firsts.{firsts};
 ghost use Rattle.pool.specs.Held.{meanings};
-ghost use Rattle.pool.specs.Pools.{entries_of, Fits, pool_keys, Sound};
+ghost use Rattle.pool.specs.Pools.{entries_of, pool_keys, Sound};
 
 use crate::key::Key;
 use crate::pool::Pool;
@@ -12,7 +12,6 @@ impl<'a, K: Key, M: Copy> Pool<'a, K, M> {
     /// Inserts the keys one after the other, with the same marks. A pool that held the first occurrences of some series holds those of
     /// that series with the keys behind it.
     pub fn insert_all(&mut self, parts: &[K::Part], keys: &[K], marks: M)
-        requires fits { Fits self.old }
         requires sound { Sound K.Key.order K.Key.meaning K.Key.reach parts.now self.old }
         requires own { (i : ℕ) (d : K) → i < length keys.now → K.Key.reach (slice_index_or keys.now i d) ≤ length parts.now }
         requires room { self.old.used + length keys.now ≤ length (entries_of self.old) }
@@ -21,12 +20,10 @@ impl<'a, K: Key, M: Copy> Pool<'a, K, M> {
         ensures grows { (self.old.used ≤ self.new.used) × (self.new.used ≤ self.old.used + length keys.now) }
         ensures long { length (entries_of self.new) ≡ length (entries_of self.old) }
         ensures lent { self.new.entries.ghost_name ≡ self.old.entries.ghost_name }
-        ensures fits { Fits self.new }
         ensures sound { Sound K.Key.order K.Key.meaning K.Key.reach parts.now self.new }
     {
-        for i in 0..keys.len() {
-            let key = keys[i];
-            let _ = self.insert(parts, key, marks);
+        for key in keys {
+            let _ = self.insert(parts, *key, marks);
         }
     }
 }

@@ -1,6 +1,6 @@
 // Storing parts.
 ghost use Rattle.std.specs.Prelude.{◌≡◌, ℕ, ◌+◌, ◌<◌, ◌≤◌, [], ◌++◌, length, slice_index_or};
-ghost use Rattle.pool.specs.Stored.{parts_of, PartsFit, stored};
+ghost use Rattle.pool.specs.Stored.{parts_of, stored};
 
 use crate::parts::Parts;
 
@@ -12,14 +12,12 @@ impl<'a, P: Copy> Parts<'a, P> {
         ensures stored { stored result ≡ [] }
         ensures same { parts_of result ≡ parts.old }
         ensures lent { result.parts.ghost_name ≡ parts.entry.ghost_name }
-        ensures fits { PartsFit result }
     {
         Parts { parts, used: 0 }
     }
 
     /// The parts in use.
     pub fn stored(&self) -> &[P]
-        requires fits { PartsFit self.now }
         ensures stored { result.now ≡ stored self.now }
     {
         &self.parts[0..self.used]
@@ -27,7 +25,6 @@ impl<'a, P: Copy> Parts<'a, P> {
 
     // Copies the parts to the end of those in use, and answers where they begin.
     pub(crate) fn store(&mut self, own: &[P]) -> usize
-        requires fits { PartsFit self.old }
         requires room { self.old.used + length own.now ≤ length (parts_of self.old) }
         ensures from { result ≡ self.old.used }
         ensures used { self.new.used ≡ self.old.used + length own.now }
@@ -35,14 +32,11 @@ impl<'a, P: Copy> Parts<'a, P> {
         ensures elsewhere { (i : ℕ) (d : P) → self.new.used ≤ i → slice_index_or (parts_of self.new) i d ≡ slice_index_or (parts_of self.old) i d }
         ensures long { length (parts_of self.new) ≡ length (parts_of self.old) }
         ensures lent { self.new.parts.ghost_name ≡ self.old.parts.ghost_name }
-        ensures fits { PartsFit self.new }
     {
         let from = self.used;
-        for i in 0..own.len() {
-            let part = own[i];
-            self.parts[from + i] = part;
-        }
-        self.used = from + own.len();
+        let to = from + own.len();
+        self.parts[from..to].copy_from_slice(own);
+        self.used = to;
         from
     }
 }

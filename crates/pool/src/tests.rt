@@ -1,9 +1,7 @@
 // Two small keys, and pools of them.
-ghost use Rattle.std.specs.Prelude.{ℕ, ◌+◌, List};
-ghost use Rattle.pool.specs.Words.{stretch_of, by_number, by_word};
+ghost use Rattle.std.specs.Prelude.{ℕ};
+ghost use Rattle.pool.specs.Words.{by_number};
 ghost use Rattle.std.proofs.Common.{rules};
-ghost use Rattle.pool.specs.WordOrder.{word_orders};
-ghost use Rattle.pool.specs.Stretches.{stretch_stays};
 
 use crate::*;
 use std::cmp::Ordering;
@@ -38,43 +36,8 @@ impl Key for Plain {
     }
 }
 
-// A text: where its bytes begin among the parts, and how many they are.
-#[derive(Clone, Copy)]
-struct Text {
-    start: u16,
-    len: u16,
-}
-
-impl Key for Text {
-    type Part = u8;
-
-    type Number = PBind;
-
-    ghost Meaning = { List ℕ };
-
-    ghost meaning = { λ k ps. stretch_of k.start k.len ps };
-
-    ghost order = { by_word };
-
-    ghost reach = { λ k. k.start + k.len };
-
-    ghost orders = { word_orders };
-
-    ghost stays = { λ k ps qs h. stretch_stays k.start k.len ps qs h };
-
-    fn compare(&self, own: &[u8], other: &Text, others: &[u8]) -> Ordering {
-        let a = stretch(own, self.start as usize, self.len as usize);
-        let b = stretch(others, other.start as usize, other.len as usize);
-        compare_bytes(a, b)
-    }
-
-    fn moved(self, by: usize) -> Text {
-        Text {
-            start: self.start + by as u16,
-            len: self.len,
-        }
-    }
-}
+// A text: a word of bytes.
+type Text = Word<u8, PBind>;
 
 #[test]
 fn a_known_key_keeps_its_number_and_marks(rt: HostRuntime) {
@@ -103,11 +66,11 @@ fn marks_are_set(rt: HostRuntime) {
 #[test]
 fn the_front_of_a_text_is_another_text(rt: HostRuntime) {
     let parts = b"abaab";
-    let mut entries = [Entry::new(Text { start: 0, len: 0 }, ()); 3];
+    let mut entries = [Entry::new(Text::new(0, 0), ()); 3];
     let mut pool: Pool<Text, ()> = Pool::new(&mut entries);
-    let aba = pool.insert(parts, Text { start: 0, len: 3 }, ());
-    let ab = pool.insert(parts, Text { start: 0, len: 2 }, ());
-    let again = pool.insert(parts, Text { start: 3, len: 2 }, ());
+    let aba = pool.insert(parts, Text::new(0, 3), ());
+    let ab = pool.insert(parts, Text::new(0, 2), ());
+    let again = pool.insert(parts, Text::new(3, 2), ());
     assert_eq!(rt; aba.index(), 0);
     assert_eq!(rt; ab.index(), 1);
     assert_eq!(rt; again, ab);
@@ -116,25 +79,22 @@ fn the_front_of_a_text_is_another_text(rt: HostRuntime) {
 #[test]
 fn texts_differ_in_one_byte(rt: HostRuntime) {
     let parts = b"abac";
-    let mut entries = [Entry::new(Text { start: 0, len: 0 }, ()); 2];
+    let mut entries = [Entry::new(Text::new(0, 0), ()); 2];
     let mut pool: Pool<Text, ()> = Pool::new(&mut entries);
-    let ac = pool.insert(parts, Text { start: 2, len: 2 }, ());
-    let ab = pool.insert(parts, Text { start: 0, len: 2 }, ());
+    let ac = pool.insert(parts, Text::new(2, 2), ());
+    let ab = pool.insert(parts, Text::new(0, 2), ());
     assert_ne!(rt; ab, ac);
-    assert_eq!(rt;
-        pool.find(parts, Text { start: 0, len: 2 }, b"ac"),
-        Some(ac)
-    );
+    assert_eq!(rt; pool.find(parts, Text::new(0, 2), b"ac"), Some(ac));
 }
 
 #[test]
 fn parts_of_a_known_key_are_not_stored(rt: HostRuntime) {
     let mut bytes = [0u8; 4];
-    let mut entries = [Entry::new(Text { start: 0, len: 0 }, 0u8); 2];
+    let mut entries = [Entry::new(Text::new(0, 0), 0u8); 2];
     let mut parts = Parts::new(&mut bytes);
     let mut pool: Pool<Text, u8> = Pool::new(&mut entries);
-    let b = pool.insert_stored(&mut parts, Text { start: 0, len: 1 }, b"b", 1);
-    let again = pool.insert_stored(&mut parts, Text { start: 1, len: 1 }, b"ab", 2);
+    let b = pool.insert_stored(&mut parts, Text::new(0, 1), b"b", 1);
+    let again = pool.insert_stored(&mut parts, Text::new(1, 1), b"ab", 2);
     assert_eq!(rt; again, b);
     assert_eq!(rt; parts.stored().len(), 1);
 }

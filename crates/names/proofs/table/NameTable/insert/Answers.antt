@@ -6,8 +6,8 @@ use Rattle.names.proofs.Facts.{names_count, names_total}
 use Rattle.names.proofs.Lending.{lent_names, lent_sound, after, after_few, after_small, after_counted, after_grows, after_bytes, after_once, after_within}
 use Rattle.names.proofs.table.NameTable.insert.Goals as goal
 
-pub intern-done-requires : goal.intern-done-requires
-intern-done-requires c =
+pub intern-requires : goal.intern-requires
+intern-requires c =
     let t = c.args.self.now in
     let es = c.deref_mut.ensures.value in
     let bs = c.deref_mut-2.ensures.value in
@@ -27,23 +27,25 @@ pub invariant_of-self : goal.invariant_of-self
 invariant_of-self c =
     let t = c.args.self.now in
     let text = c.args.text.now in
-    let r = c.intern-done.result in
+    let n = c.intern.result in
+    let u = c.intern.new.used in
+    let h = c.intern.new.stored in
     let es = c.deref_mut.result.now in
-    let fs = c.intern-done.new.entries in
+    let fs = c.intern.new.entries in
     let bs = c.deref_mut-2.result.now in
-    let cs = c.intern-done.new.bytes in
+    let cs = c.intern.new.bytes in
     let e = c.deref_mut.ensures.value in
     let b = c.deref_mut-2.ensures.value in
-    let fl = c.intern-done.auto.entries ∙ c.deref_mut.ensures.len in
-    let cl = c.intern-done.auto.bytes ∙ c.deref_mut-2.ensures.len in
-    let i = c.intern-done.ensures.inserted in
+    let fl = c.intern.auto.entries ∙ c.deref_mut.ensures.len in
+    let cl = c.intern.auto.bytes ∙ c.deref_mut-2.ensures.len in
+    let i = c.intern.ensures.inserted in
     record {
       wide = t.wide;
       long = t.long;
-      few = after_few t text r es fs bs cs e b fl cl i;
-      small = after_small t text r es fs bs cs e b fl cl i;
-      sound = (after t text r es fs bs cs e b fl cl i).sound;
-      counted = after_counted t text r es fs bs cs e b fl cl i;
+      few = after_few t text n u h es fs bs cs e b fl cl i;
+      small = after_small t text n u h es fs bs cs e b fl cl i;
+      sound = (after t text n u h es fs bs cs e b fl cl i).sound;
+      counted = after_counted t text n u h es fs bs cs e b fl cl i;
     }
 
 pub returns : goal.returns
@@ -51,22 +53,24 @@ unfolding names_of
 returns c =
     let t = c.args.self.now in
     let text = c.args.text.now in
-    let r = c.intern-done.result in
+    let n = c.intern.result in
+    let u = c.intern.new.used in
+    let h = c.intern.new.stored in
     let es = c.deref_mut.result.now in
-    let fs = c.intern-done.new.entries in
+    let fs = c.intern.new.entries in
     let bs = c.deref_mut-2.result.now in
-    let cs = c.intern-done.new.bytes in
+    let cs = c.intern.new.bytes in
     let e = c.deref_mut.ensures.value in
     let b = c.deref_mut-2.ensures.value in
-    let fl = c.intern-done.auto.entries ∙ c.deref_mut.ensures.len in
-    let cl = c.intern-done.auto.bytes ∙ c.deref_mut-2.ensures.len in
-    let i = c.intern-done.ensures.inserted in
-    let a = after t text r es fs bs cs e b fl cl i in
+    let fl = c.intern.auto.entries ∙ c.deref_mut.ensures.len in
+    let cl = c.intern.auto.bytes ∙ c.deref_mut-2.ensures.len in
+    let i = c.intern.ensures.inserted in
+    let a = after t text n u h es fs bs cs e b fl cl i in
     record {
       names = a.names;
       number = a.number;
-      once = after_once t text r es fs bs cs e b fl cl i;
-      grows = after_grows t text r es fs bs cs e b fl cl i;
-      bytes_grow = after_bytes t text r es fs bs cs e b fl cl i;
-      within = after_within t text r es fs bs cs e b fl cl i;
+      once = after_once t text n u h es fs bs cs e b fl cl i;
+      grows = after_grows t text n u h es fs bs cs e b fl cl i;
+      bytes_grow = after_bytes t text n u h es fs bs cs e b fl cl i;
+      within = after_within t text n u h es fs bs cs e b fl cl i;
     }
