@@ -1,8 +1,8 @@
 -- Texts of limited length.
-use Rattle.std.proofs.Common.{◌≡◌, length, arith}
+use Rattle.std.proofs.Common.{◌≡◌, ℕ, length, arith}
 use Rattle.std.proofs.lemmas.List.{length-take-le}
 use Rattle.texts.specs.Flats.{flat_text}
-use Rattle.texts.specs.declared.room.Flat.{Flat}
+use Rattle.texts.specs.declared.room.Bounded.{Bounded}
 
-pub flat_length : (t : Flat) → length (flat_text t) ≡ t.len
+pub flat_length : {N : ℕ} (t : Bounded N) → length (flat_text t) ≡ t.len
 flat_length t = length-take-le t.len t.bytes (omega (arith, t.full, t.within))

@@ -1,11 +1,12 @@
 -- The text of a list: how far groups go, and the step from item to item.
 use Rattle.std.proofs.Common.{◌≡◌, ℕ, zero, suc, ◌+◌, ◌<◌, ◌≤◌, Bool, true, false, cond, eqb, ltb, leb, List, [], ◌∷◌, ◌++◌, length, get_or, drop, sym, refl, ap, ◌∙◌, ⊎_elim, arith, length-append}
 use Rattle.std.proofs.lemmas.List.{append_assoc, append-nil, at_drop_all, at_drop_more}
-use Rattle.std.proofs.ByRecursion.{All-get_or}
-use Rattle.std.proofs.lemmas.Bool.{and_parts, cases_Bool, cond_both, eqb-true, leb-false, lt-leb, ltb-true}
-use Rattle.std.specs.List.{flat_map, AllByRecursion}
+use Rattle.std.proofs.lemmas.List.Elements.{All-filter, filter_passes}
+use Rattle.std.proofs.lemmas.List.Sums.{AllPass-from_list_all}
+use Rattle.std.proofs.lemmas.Bool.{and_parts, cases_Bool, eqb-true, leb-false, lt-leb, ltb-true}
+use Rattle.std.specs.List.{flat_map}
 use Rattle.texts.specs.Tokens.{bytes_of, child_above, every_child_above, flat, flattened, item_text, items_of, lhs, rhs}
-use Rattle.texts.specs.declared.short_text.ShortText.{ShortText}
+use Rattle.texts.specs.Flats.{ShortText}
 use Rattle.texts.specs.declared.token_tree.Delimiter.{Delimiter}
 use Rattle.texts.specs.declared.token_tree.Item.{Item}
 use Rattle.texts.specs.declared.token_tree.Text.{Text}
@@ -65,33 +66,38 @@ too_long out more rest a b h e =
     lt-leb (length a + length b) 1024
     (omega (arith, leb-false (length out + length more) 1024 e, ap length h, length-append out (more ++ rest), length-append more rest, length-append a b))
 
--- a group, taken apart
-pub group_parts : (before list after rest : List ℕ) → (before ++ (list ++ after)) ++ rest ≡ before ++ (list ++ (after ++ rest))
-group_parts before list after rest = append_assoc before (list ++ after) rest ∙ ap (λ (xs : List ℕ). before ++ xs) (append_assoc list after rest)
+-- the text of an item, where the lists are given
+abbrev pub text_of : List Item → Item → List ℕ
+text_of items item = item_text (flattened items) item.text
 
 -- one item of what is left
-pub next_item : (f : Item → List ℕ) (slice run : List Item) (i : ℕ) (x : Item) (out whole : List ℕ) → slice ≡ run → i < length slice → x ≡ get_or slice i x
+next_item : (f : Item → List ℕ) (slice run : List Item) (i : ℕ) (x : Item) (out whole : List ℕ) → slice ≡ run → i < length slice → x ≡ get_or slice i x
     → out ++ flat_map f (drop i run) ≡ whole → out ++ (f x ++ flat_map f (drop (i + 1) run)) ≡ whole
 next_item f slice run i x out whole e l is h =
     ap (λ (y : Item). out ++ (f y ++ flat_map f (drop (i + 1) run))) (is ∙ ap (λ (xs : List Item). get_or xs i x) e)
     ∙ ap (λ (xs : List ℕ). out ++ xs) (sym (at_drop_more (flat_map f) run i x (omega (arith, ap length e))))
     ∙ h
 
--- a text, and a group, as what is added
-pub text_next : (lists : ℕ → List ℕ) (out rest whole added : List ℕ) (t : Text) (s : ShortText) → t ≡ Chars s → added ≡ bytes_of s
-    → out ++ (item_text lists t ++ rest) ≡ whole → out ++ (added ++ rest) ≡ whole
-text_next lists out rest whole added t s is e h =
-    ap (λ (xs : List ℕ). out ++ (xs ++ rest)) (e ∙ sym (ap (item_text lists) is)) ∙ h
+-- a text, and a group, as what is added next
+pub text_next : (items slice run : List Item) (i : ℕ) (x : Item) (s : ShortText) (out added whole : List ℕ)
+    → slice ≡ run → i < length slice → x ≡ get_or slice i x → x.text ≡ Chars s → added ≡ bytes_of s
+    → out ++ flat_map (text_of items) (drop i run) ≡ whole → out ++ (added ++ flat_map (text_of items) (drop (i + 1) run)) ≡ whole
+text_next items slice run i x s out added whole same l at is e h =
+    ap (λ (xs : List ℕ). out ++ (xs ++ flat_map (text_of items) (drop (i + 1) run))) (e ∙ sym (ap (item_text (flattened items)) is))
+    ∙ next_item (text_of items) slice run i x out whole same l at h
 
-pub group_next : (lists : ℕ → List ℕ) (out rest whole before after : List ℕ) (t : Text) (d : Delimiter) (child : ℕ) → t ≡ Group d child → before ≡ lhs d → after ≡ rhs d
-    → out ++ (item_text lists t ++ rest) ≡ whole → out ++ (before ++ (lists child ++ (after ++ rest))) ≡ whole
-group_next lists out rest whole before after t d child is b a h =
+pub group_next : (items slice run : List Item) (i : ℕ) (x : Item) (d : Delimiter) (child : ℕ) (out before whole : List ℕ)
+    → slice ≡ run → i < length slice → x ≡ get_or slice i x → x.text ≡ Group d child → before ≡ lhs d
+    → out ++ flat_map (text_of items) (drop i run) ≡ whole
+    → out ++ (before ++ (flattened items child ++ (rhs d ++ flat_map (text_of items) (drop (i + 1) run)))) ≡ whole
+group_next items slice run i x d child out before whole same l at is b h =
+    let list : List ℕ = flattened items child in
+    let rest : List ℕ = flat_map (text_of items) (drop (i + 1) run) in
     ap (λ (xs : List ℕ). out ++ xs)
-    (sym (group_parts before (lists child) after rest)
-    ∙ ap (λ (xs : List ℕ). (xs ++ (lists child ++ after)) ++ rest) b
-    ∙ ap (λ (xs : List ℕ). (lhs d ++ (lists child ++ xs)) ++ rest) a
-    ∙ ap (λ (x : Text). item_text lists x ++ rest) (sym is))
-    ∙ h
+    (ap (λ (xs : List ℕ). xs ++ (list ++ (rhs d ++ rest))) b
+    ∙ sym (append_assoc (lhs d) (list ++ rhs d) rest ∙ ap (λ (xs : List ℕ). lhs d ++ xs) (append_assoc list (rhs d) rest))
+    ∙ ap (λ (t : Text). item_text (flattened items) t ++ rest) (sym is))
+    ∙ next_item (text_of items) slice run i x out whole same l at h
 
 -- where nothing is left, the whole was added
 pub all_added : (f : Item → List ℕ) (slice run : List Item) (i : ℕ) (out whole : List ℕ) → slice ≡ run → length slice ≤ i → out ++ flat_map f (drop i run) ≡ whole → out ≡ whole
@@ -102,19 +108,11 @@ all_added f slice run i out whole e l h =
 pub child_falls : (items : List Item) (slice : List Item) (list i : ℕ) (x : Item) (d : Delimiter) (child : ℕ) → every_child_above items ≡ true
     → slice ≡ items_of list items → i < length slice → x ≡ get_or slice i x → x.text ≡ Group d child → (list < child) × (child < 256)
 child_falls items slice list i x d child a e l is g =
-    let p = run_above items x list i a (omega (arith, ap length e)) (is ∙ ap (λ (xs : List Item). get_or xs i x) e) in
-    let q = and_parts (ltb list child) (ltb child 256) (ap (child_above list) (sym g) ∙ p) in
+    let above : Item → Bool = λ y. child_above y.list y.text in
+    let run : List Item = items_of list items in
+    let in' : i < length run = omega (arith, ap length e) in
+    let here : x ≡ get_or run i x = is ∙ ap (λ (xs : List Item). get_or xs i x) e in
+    let own : eqb x.list list ≡ true = ap (λ (y : Item). eqb y.list list) here ∙ filter_passes (λ (y : Item). eqb y.list list) items i x in' in
+    let fits : above x ≡ true = ap above here ∙ All-filter (λ (y : Item). eqb y.list list) (λ (y : Item). above y ≡ true) items (AllPass-from_list_all above items a) i x in' in
+    let q = and_parts (ltb list child) (ltb child 256) (ap (child_above list) (sym g) ∙ ap (λ (n : ℕ). child_above n x.text) (sym (eqb-true x.list list own)) ∙ fits) in
     (ltb-true list child q.0, ltb-true child 256 q.1)
-  where
-    run_above : (items : List Item) (x : Item) (list i : ℕ) → every_child_above items ≡ true → i < length (items_of list items) → x ≡ get_or (items_of list items) i x → child_above list x.text ≡ true
-    run_above items x list i a l e =
-        ap (λ (y : Item). child_above list y.text) e
-        ∙ All-get_or (λ (y : Item). child_above list y.text ≡ true) (items_of list items) i x l (every_run items a)
-      where
-        every_run : (ys : List Item) → every_child_above ys ≡ true → AllByRecursion (λ (y : Item). child_above list y.text ≡ true) (items_of list ys)
-        every_run [] a = tt
-        every_run (y ∷ ys) a =
-            let p = and_parts (child_above y.list y.text) (every_child_above ys) a in
-            cond_both (eqb y.list list) (y ∷ items_of list ys) (items_of list ys) (AllByRecursion (λ (z : Item). child_above list z.text ≡ true))
-            (λ e. (ap (λ (n : ℕ). child_above n y.text) (sym (eqb-true y.list list e)) ∙ p.0, every_run ys p.1))
-            (λ e. every_run ys p.1)

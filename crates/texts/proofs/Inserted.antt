@@ -4,14 +4,15 @@ use Rattle.std.proofs.lemmas.List.Edits.{get_or-insert_below, get_or-insert_at, 
 use Rattle.std.proofs.lemmas.List.Elements.{filter-append}
 use Rattle.std.proofs.lemmas.List.{append-nil, drop-map, get_or-set_same, get_or-set_other, length-map, map-append, take-append-drop, take-map}
 use Rattle.std.proofs.lemmas.Bool.{and_from, and_parts, cases_eq, cases_order, cond-true, cond-false, eq-eqb, le-leb, ne_eqb, or_left}
-use Rattle.std.specs.List.{insert}
+use Rattle.std.proofs.lemmas.List.Folds.{list_all-append, list_any-append}
+use Rattle.std.specs.List.{insert, list_all, list_any}
 use Rattle.texts.specs.Lists.{Added}
 use Rattle.texts.specs.Texts.{lists_of}
 use Rattle.texts.specs.Tokens.{child_above, child_of, every_child_above, items_of, list_at, Sorted, taken_in}
 use Rattle.texts.specs.declared.token_tree.Delimiter.{Delimiter}
 use Rattle.texts.specs.declared.token_tree.Item.{Item}
 use Rattle.texts.specs.declared.lists.Texts.{Texts}
-use Rattle.texts.specs.declared.short_text.ShortText.{ShortText}
+use Rattle.texts.specs.Flats.{ShortText}
 use Rattle.texts.specs.declared.token_tree.Text.{Text}
 use Rattle.texts.specs.declared.token_tree.Text.TheVariants.{Chars, Group}
 use Rattle.texts.proofs.Runs.{list_rises, none_from}
@@ -28,26 +29,6 @@ list_inserted items at item i =
     (map-append (λ (x : Item). x.list) (take at items) (item ∷ drop at items)
     ∙ ap (λ (xs : List ℕ). xs ++ (item.list ∷ map (λ x. x.list) (drop at items))) (sym (take-map (λ (x : Item). x.list) at items))
     ∙ ap (λ (xs : List ℕ). take at (map (λ x. x.list) items) ++ (item.list ∷ xs)) (sym (drop-map (λ (x : Item). x.list) at items)))
-
-above_append : (xs ys : List Item) → every_child_above (xs ++ ys) ≡ (every_child_above xs && every_child_above ys)
-above_append [] ys = refl
-above_append (x ∷ xs) ys =
-    ap (λ (b : Bool). child_above x.list x.text && b) (above_append xs ys)
-    ∙ regrouped (child_above x.list x.text) (every_child_above xs) (every_child_above ys)
-  where
-    regrouped : (a b c : Bool) → (a && (b && c)) ≡ ((a && b) && c)
-    regrouped true b c = refl
-    regrouped false b c = refl
-
-taken_append : (k : ℕ) (xs ys : List Item) → taken_in k (xs ++ ys) ≡ (taken_in k xs || taken_in k ys)
-taken_append k [] ys = refl
-taken_append k (x ∷ xs) ys =
-    ap (λ (b : Bool). child_of k x.text || b) (taken_append k xs ys)
-    ∙ regrouped (child_of k x.text) (taken_in k xs) (taken_in k ys)
-  where
-    regrouped : (a b c : Bool) → (a || (b || c)) ≡ ((a || b) || c)
-    regrouped true b c = refl
-    regrouped false b c = refl
 
 -- which lists stand in a group, after a group or a text was added
 pub taken_by_group : (taken : List Bool) (old new : List Item) (t : Text) (d : Delimiter) (child : ℕ) → t ≡ Group d child → child < length taken
@@ -95,48 +76,50 @@ module _ (items : List Item) (at : ℕ) (item : Item) (within : at ≤ length it
   below_at : (i : ℕ) → i < at → list_at (insert items at item) i ≡ list_at items i
   below_at i h = list_inserted items at item i ∙ get_or-insert_below (map (λ x. x.list) items) at item.list 256 i h (omega (arith, length-map items (λ x. x.list)))
 
-  just_at : list_at (insert items at item) at ≡ item.list
-  just_at = list_inserted items at item at ∙ get_or-insert_at (map (λ x. x.list) items) at item.list 256 (omega (arith, length-map items (λ x. x.list)))
+  just_at : (i : ℕ) → i ≡ at → list_at (insert items at item) i ≡ item.list
+  just_at i e =
+      ap (list_at (insert items at item)) e ∙ list_inserted items at item at
+      ∙ get_or-insert_at (map (λ x. x.list) items) at item.list 256 (omega (arith, length-map items (λ x. x.list)))
 
-  above_at : (i : ℕ) → at ≤ i → list_at (insert items at item) (i + 1) ≡ list_at items i
-  above_at i h = list_inserted items at item (i + 1) ∙ get_or-insert_above (map (λ x. x.list) items) at item.list 256 i h (omega (arith, length-map items (λ x. x.list)))
+  above_at : (i : ℕ) → at < i → list_at (insert items at item) i ≡ list_at items (i - 1)
+  above_at i h =
+      ap (list_at (insert items at item)) (omega arith) ∙ list_inserted items at item (i - 1 + 1)
+      ∙ get_or-insert_above (map (λ x. x.list) items) at item.list 256 (i - 1) (omega arith) (omega (arith, length-map items (λ x. x.list)))
 
   pub sorted_inserted : Sorted items → Sorted (insert items at item)
   sorted_inserted s i j h =
-      le-leb (list_at (insert items at item) i) (list_at (insert items at item) j)
-      (⊎_elim
-      (λ (e : j ≡ at). omega (arith, below_at i (omega arith), before i (omega arith), just_at, ap (list_at (insert items at item)) e))
-      (λ o. ⊎_elim
-      (λ (l : j < at). omega (arith, below_at i (omega arith), below_at j l, list_rises items s i j (omega arith)))
-      (λ (g : at < j).
-      let m : ℕ = j - 1 in
-      let next : list_at (insert items at item) j ≡ list_at items m = ap (list_at (insert items at item)) (omega arith) ∙ above_at m (omega arith) in
-      ⊎_elim
-      (λ (e : i ≡ at). omega (arith, next, after m (omega arith), just_at, ap (list_at (insert items at item)) e))
-      (λ p. ⊎_elim
-      (λ (l : i < at). omega (arith, next, below_at i l, list_rises items s i m (omega arith)))
-      (λ (q : at < i).
-      let n : ℕ = i - 1 in
-      let first : list_at (insert items at item) i ≡ list_at items n = ap (list_at (insert items at item)) (omega arith) ∙ above_at n (omega arith) in
-      omega (arith, next, first, list_rises items s n m (omega arith)))
-      p)
-      (cases_order i at))
-      o)
-      (cases_order j at))
+      le-leb (list_at (insert items at item) i) (list_at (insert items at item) j) (grind (
+        arith,
+        cases_order i at,
+        cases_order j at,
+        below_at i,
+        below_at j,
+        just_at i,
+        just_at j,
+        above_at i,
+        above_at j,
+        before i,
+        after (j - 1),
+        list_rises items s i j,
+        list_rises items s i (j - 1),
+        list_rises items s (i - 1) (j - 1),
+      ))
 
   pub above_inserted : every_child_above items ≡ true → child_above item.list item.text ≡ true → every_child_above (insert items at item) ≡ true
   above_inserted h k =
-      let parts = and_parts (every_child_above (take at items)) (every_child_above (drop at items))
-      (sym (above_append (take at items) (drop at items)) ∙ ap every_child_above (take-append-drop at items) ∙ h) in
-      above_append (take at items) (item ∷ drop at items)
-      ∙ and_from (every_child_above (take at items)) (child_above item.list item.text && every_child_above (drop at items)) parts.0
-      (and_from (child_above item.list item.text) (every_child_above (drop at items)) k parts.1)
+      let above : Item → Bool = λ x. child_above x.list x.text in
+      let parts = and_parts (list_all above (take at items)) (list_all above (drop at items))
+      (sym (list_all-append above (take at items) (drop at items)) ∙ ap (list_all above) (take-append-drop at items) ∙ h) in
+      list_all-append above (take at items) (item ∷ drop at items)
+      ∙ and_from (list_all above (take at items)) (above item && list_all above (drop at items)) parts.0
+      (and_from (above item) (list_all above (drop at items)) k parts.1)
 
   pub taken_inserted : (k : ℕ) → taken_in k (insert items at item) ≡ (child_of k item.text || taken_in k items)
   taken_inserted k =
-      taken_append k (take at items) (item ∷ drop at items)
-      ∙ moved (taken_in k (take at items)) (child_of k item.text) (taken_in k (drop at items))
-      ∙ ap (λ (b : Bool). child_of k item.text || b) (sym (taken_append k (take at items) (drop at items)) ∙ ap (taken_in k) (take-append-drop at items))
+      let child : Item → Bool = λ x. child_of k x.text in
+      list_any-append child (take at items) (item ∷ drop at items)
+      ∙ moved (list_any child (take at items)) (child item) (list_any child (drop at items))
+      ∙ ap (λ (b : Bool). child item || b) (sym (list_any-append child (take at items) (drop at items)) ∙ ap (list_any child) (take-append-drop at items))
     where
       moved : (a b c : Bool) → (a || (b || c)) ≡ (b || (a || c))
       moved true true c = refl

@@ -1,5 +1,4 @@
 mod Flats
 mod Flattened
 mod Inserted
-mod Printed
 mod Runs

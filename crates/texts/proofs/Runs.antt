@@ -1,19 +1,18 @@
 -- Items sorted by list: where they stand, and the run of one list.
-use Rattle.std.proofs.Common.{◌≡◌, ℕ, zero, suc, ◌+◌, ◌-◌, ◌<◌, ◌≤◌, Bool, cond, eqb, List, [], ◌∷◌, ◌++◌, map, length, get_or, take, drop, sym, refl, ap, ◌∙◌, ⊎_elim, arith}
+use Rattle.std.proofs.Common.{◌≡◌, ℕ, suc, ◌+◌, ◌-◌, ◌<◌, ◌≤◌, Bool, true, false, cond, eqb, ltb, List, [], ◌∷◌, ◌++◌, map, length, get_or, take, drop, sym, refl, ap, ◌∙◌, ⊎_elim, arith}
 use Rattle.std.proofs.lemmas.List.Edits.{split_between, length-between}
 use Rattle.std.proofs.lemmas.List.Elements.{filter-append}
-use Rattle.std.proofs.lemmas.List.{append-nil, get_or-drop, get_or-map, get_or_past, get_or-take, drop-map, length-map, take-map}
-use Rattle.std.proofs.lemmas.Bool.{cases_lt, eq-eqb, leb-true, ne_eqb}
+use Rattle.std.proofs.lemmas.List.{append-nil, get_or-drop, get_or-map, get_or_past, get_or-take, drop-map, length-map, length-take, take-map}
+use Rattle.std.proofs.lemmas.Bool.{cases_lt, eq-eqb, leb-true, ltb-false, ltb-true, ne_eqb}
 use Rattle.std.specs.List.{between}
+use Rattle.std.specs.List.Sorted.{IsNonDecreasingBy, IsPartitionPoint}
 use Rattle.texts.specs.Tokens.{items_of, list_at, Sorted}
 use Rattle.texts.specs.declared.token_tree.Item.{Item}
+use Rattle.texts.specs.declared.token_tree.Delimiter.TheVariants.{None}
+use Rattle.texts.specs.declared.token_tree.Text.TheVariants.{Group}
 
 pub list_past : (items : List Item) (i : ℕ) → length items ≤ i → list_at items i ≡ 256
 list_past items i h = get_or_past (map (λ item. item.list) items) i 256 (omega (arith, length-map items (λ item. item.list)))
-
-pub list_read : (items : List Item) (i : ℕ) (item : Item) → i < length items → item ≡ get_or items i item → item.list ≡ list_at items i
-list_read items i item h e =
-    ap (λ (x : Item). x.list) e ∙ sym (get_or-map (λ (x : Item). x.list) items i item 256 h)
 
 pub list_rises : (items : List Item) → Sorted items → (i j : ℕ) → i ≤ j → list_at items i ≤ list_at items j
 list_rises items s i j h =
@@ -47,18 +46,13 @@ all_of k (x ∷ xs) h =
 -- before an item of which each list is below, and from one on of which each list is above
 pub none_before : (k n : ℕ) (items : List Item) → ((i : ℕ) → i < n → list_at items i < k) → items_of k (take n items) ≡ []
 none_before k n items h =
-    none_of k (take n items) (λ i l e. let m : i < n = omega (arith, length_take_fits n items) in omega (arith, h i m, list_take items n i m))
-  where
-    length_take_fits : (n : ℕ) (items : List Item) → length (take n items) ≤ n
-    length_take_fits zero items = omega arith
-    length_take_fits (suc n) [] = omega arith
-    length_take_fits (suc n) (x ∷ xs) = omega (arith, length_take_fits n xs)
+    none_of k (take n items) (λ i l e. let m : i < n = omega (arith, length-take n items) in omega (arith, h i m, list_take items n i m))
 
 pub none_from : (k n : ℕ) (items : List Item) → ((i : ℕ) → n ≤ i → k < list_at items i) → items_of k (drop n items) ≡ []
 none_from k n items h = none_of k (drop n items) (λ i l e. omega (arith, h (n + i) (omega arith), list_drop items n i))
 
 -- a list begins before it ends
-pub run_ordered : (k from to : ℕ) (items : List Item) → ((i : ℕ) → i < from → list_at items i < k) → ((i : ℕ) → to ≤ i → k + 1 ≤ list_at items i) → from ≤ to
+run_ordered : (k from to : ℕ) (items : List Item) → ((i : ℕ) → i < from → list_at items i < k) → ((i : ℕ) → to ≤ i → k + 1 ≤ list_at items i) → from ≤ to
 run_ordered k from to items below past =
     ⊎_elim (λ (l : to < from). absurd (omega (arith, below to l, past to (omega arith)))) (λ (g : from ≤ to). g) (cases_lt to from)
 
@@ -84,3 +78,31 @@ run_is k from to items fits below above upto past =
         let m : i < to - from = omega (arith, length-between items from to fits) in
         let e : list_at (between from to items) i ≡ list_at items (from + i) = list_take (drop from items) (to - from) i m ∙ list_drop items from i in
         omega (arith, e, above (from + i) (omega arith), upto (from + i) (omega arith))
+
+-- the lists of items rise from item to item
+pub lists_rise : (items : List Item) → Sorted items → IsNonDecreasingBy (λ (x : Item). x.list) items
+lists_rise items s i j d h l =
+    omega (
+      arith,
+      get_or-map (λ (x : Item). x.list) items i d 256 (omega arith),
+      get_or-map (λ (x : Item). x.list) items j d 256 l,
+      list_rises items s i j h,
+    )
+
+-- the lists before and from where the items of those from `list` on begin
+module _ (items : List Item) (list at : ℕ) (within : at ≤ length items)
+    (point : IsPartitionPoint (λ (x : Item). ltb x.list list ≡ true) (λ (x : Item). ltb x.list list ≡ false) items at) where
+  -- an item to read by, where there is none
+  no_item : Item
+  no_item = record { list = 0; text = Group None 0 }
+
+  pub below_point : (i : ℕ) → i < at → list_at items i < list
+  below_point i h =
+      omega (arith, get_or-map (λ (x : Item). x.list) items i no_item 256 (omega arith), ltb-true _ _ (point.0 i no_item (omega arith) h))
+
+  pub from_point : list ≤ 256 → (i : ℕ) → at ≤ i → list ≤ list_at items i
+  from_point there i h =
+      ⊎_elim
+      (λ (l : i < length items). omega (arith, get_or-map (λ (x : Item). x.list) items i no_item 256 l, ltb-false _ _ (point.1 i no_item h l)))
+      (λ (g : length items ≤ i). omega (arith, list_past items i g))
+      (cases_lt i (length items))

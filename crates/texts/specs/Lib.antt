@@ -1,6 +1,6 @@
 pub mod Refusals
 pub mod Printable
-pub mod Tokens
 pub mod Flats
+pub mod Tokens
 pub mod Lists
 pub mod Texts

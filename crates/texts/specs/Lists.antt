@@ -7,7 +7,7 @@ use Rattle.texts.specs.declared.refusals.Refusal.TheVariants.{NoRoomForItem, Wro
 use Rattle.texts.specs.declared.token_tree.Item.{Item}
 use Rattle.texts.specs.declared.token_tree.Text.{Text}
 use Rattle.texts.specs.declared.token_tree.Text.TheVariants.{Chars, Group}
-use Rattle.texts.specs.declared.short_text.ShortText.{ShortText}
+use Rattle.texts.specs.Flats.{ShortText}
 use Rattle.texts.specs.declared.token_tree.Delimiter.{Delimiter}
 
 -- a text of an item: 1 to 60 printable bytes

@@ -1,10 +1,10 @@
 -- Lists of texts and groups, and what they flatten to.
-use Rattle.std.specs.Prelude.{◌≡◌, ℕ, zero, suc, ◌<◌, Bool, true, false, cond, ◌&&◌, ◌||◌, List, [], ◌∷◌, ◌++◌, map, take, filter, Option, ◌==◌, nat_eq, nat_le, nat_lt, slice_index_or}
+use Rattle.std.specs.Prelude.{◌≡◌, ℕ, zero, suc, ◌<◌, Bool, true, false, cond, ◌&&◌, List, [], ◌∷◌, ◌++◌, map, filter, Option, ◌==◌, nat_eq, nat_le, nat_lt, slice_index_or}
 use Rattle.std.specs.declared.option.Option.TheVariants as option
-use Rattle.std.specs.List.{flat_map}
+use Rattle.std.specs.List.{flat_map, list_all, list_any}
 use Rattle.texts.specs.declared.token_tree.Delimiter.{Delimiter}
 use Rattle.texts.specs.declared.token_tree.Delimiter.TheVariants.{None, Space, Parenthesis, Bracket, Brace, RangeBracket, Component, Concatenation}
-use Rattle.texts.specs.declared.short_text.ShortText.{ShortText}
+use Rattle.texts.specs.Flats.{ShortText, flat_text}
 use Rattle.texts.specs.declared.token_tree.Text.{Text}
 use Rattle.texts.specs.declared.token_tree.Text.TheVariants.{Chars, Group}
 use Rattle.texts.specs.declared.token_tree.Item.{Item}
@@ -39,7 +39,7 @@ rhs Concatenation = 59 ∷ []
 
 -- the bytes of a short text
 abbrev pub bytes_of : ShortText → List ℕ
-bytes_of text = take text.len text.bytes
+bytes_of text = flat_text text
 
 -- the items of a list, in their order
 abbrev pub items_of : ℕ → List Item → List Item
@@ -65,8 +65,7 @@ child_of list (Chars text) = false
 child_of list (Group delimiter child) = child == list
 
 abbrev pub taken_in : ℕ → List Item → Bool
-taken_in list [] = false
-taken_in list (item ∷ items) = child_of list item.text || taken_in list items
+taken_in list items = list_any (λ item. child_of list item.text) items
 
 -- the child of a group is one of the lists, and has a greater number
 abbrev pub child_above : ℕ → Text → Bool
@@ -74,8 +73,7 @@ child_above list (Chars text) = true
 child_above list (Group delimiter child) = nat_lt list child && nat_lt child 256
 
 abbrev pub every_child_above : List Item → Bool
-every_child_above [] = true
-every_child_above (item ∷ items) = child_above item.list item.text && every_child_above items
+every_child_above items = list_all (λ item. child_above item.list item.text) items
 
 -- the list that item i stands in; past the last item, 256
 abbrev pub list_at : List Item → ℕ → ℕ

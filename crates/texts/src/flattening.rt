@@ -4,7 +4,7 @@ ghost use Rattle.texts.specs.Flats.{flat_text};
 ghost use Rattle.texts.specs.Texts.{lists_of};
 ghost use Rattle.texts.specs.Tokens.{flattened, items_of};
 
-use crate::flat::TooLong;
+use crate::bounded::TooLong;
 use crate::lists::Texts;
 use crate::room::Flat;
 use crate::token_tree::{Item, Text};

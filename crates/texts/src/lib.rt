@@ -14,19 +14,17 @@
 #![tactic(auto)]
 
 mod adding;
-mod flat;
+mod bounded;
 mod flattening;
 mod lists;
 mod printable;
 mod refusals;
 mod room;
-mod short;
-mod short_text;
 mod token_tree;
 
-pub use flat::TooLong;
+pub use bounded::TooLong;
 pub use lists::Texts;
 pub use printable::all_printable;
 pub use refusals::Refusal;
-pub use room::Flat;
+pub use room::{Bounded, Flat};
 pub use token_tree::Delimiter;

@@ -5,17 +5,12 @@ ghost use Rattle.std.specs.Prelude.{◌≡◌};
 fn is_printable(byte: u8) -> bool
     ensures answer { result ≡ printable byte }
 {
-    32 <= byte && byte <= 126
+    matches!(byte, b' '..=b'~')
 }
 
 /// Whether each byte is a printable character of ASCII, 32 to 126.
 pub fn all_printable(bytes: &[u8]) -> bool
     ensures answer { result ≡ every_printable bytes.now }
 {
-    for byte in bytes {
-        if !is_printable(*byte) {
-            return false;
-        }
-    }
-    true
+    bytes.iter().all(|byte| is_printable(*byte))
 }

@@ -1,8 +1,11 @@
 // What text lists are made of: short texts, and groups of lists between delimiters.
 ghost use Rattle.texts.specs.Tokens.{delimiter_of, lhs, rhs};
 ghost use Rattle.std.specs.Prelude.{◌≡◌};
+ghost use Rattle.std.specs.Option.{ok_or};
+ghost use Rattle.texts.specs.declared.refusals.Refusal.TheVariants.{WrongItem};
 
-use crate::short_text::ShortText;
+use crate::refusals::Refusal;
+use crate::room::ShortText;
 
 /// What stands before and after the list of a group.
 #[derive(Clone, Copy, PartialEq, Eq, Debug)]
@@ -17,24 +20,28 @@ pub enum Delimiter {
     Concatenation,
 }
 
-impl Delimiter {
+impl TryFrom<usize> for Delimiter {
+    type Error = Refusal;
+
+    ghost try_from_gives = { λ number r. r ≡ ok_or (delimiter_of number) WrongItem };
+
     /// The delimiter that has this number, 0 to 7.
-    pub fn from_number(number: usize) -> Option<Delimiter>
-        ensures answer { result ≡ delimiter_of number }
-    {
+    fn try_from(number: usize) -> Result<Delimiter, Refusal> {
         match number {
-            0 => Some(Delimiter::None),
-            1 => Some(Delimiter::Space),
-            2 => Some(Delimiter::Parenthesis),
-            3 => Some(Delimiter::Bracket),
-            4 => Some(Delimiter::Brace),
-            5 => Some(Delimiter::RangeBracket),
-            6 => Some(Delimiter::Component),
-            7 => Some(Delimiter::Concatenation),
-            _ => None,
+            0 => Ok(Delimiter::None),
+            1 => Ok(Delimiter::Space),
+            2 => Ok(Delimiter::Parenthesis),
+            3 => Ok(Delimiter::Bracket),
+            4 => Ok(Delimiter::Brace),
+            5 => Ok(Delimiter::RangeBracket),
+            6 => Ok(Delimiter::Component),
+            7 => Ok(Delimiter::Concatenation),
+            _ => Err(Refusal::WrongItem),
         }
     }
+}
 
+impl Delimiter {
     /// What stands before the list.
     pub fn lhs_chars(self) -> &'static [u8]
         ensures answer { result.now ≡ lhs self }
@@ -52,6 +59,7 @@ impl Delimiter {
     }
 
     /// What stands after it.
+    // A table beside that of `lhs_chars`: most lines differ, and each caller wants one of the two.
     pub fn rhs_chars(self) -> &'static [u8]
         ensures answer { result.now ≡ rhs self }
     {

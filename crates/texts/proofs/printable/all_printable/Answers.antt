@@ -1,19 +1,11 @@
-use Rattle.std.proofs.Common.{sym, ◌∙◌}
-use Rattle.texts.proofs.Printed.{printable_more, printable_stops, printable_all}
+use Rattle.std.proofs.Common.{rules, tests}
+use Rattle.std.proofs.lemmas.Iterator.{YieldsList-from_slice}
+use Rattle.std.proofs.lemmas.Iterator.Search.{all_from_yields_List}
+use Rattle.texts.specs.Printable.{printable}
 use Rattle.texts.proofs.printable.all_printable.Goals as goal
-
-pub returns-then-not-is_printable : goal.returns-then-not-is_printable
-returns-then-not-is_printable c =
-    record {
-      answer = sym (printable_stops c.args.bytes.now c.loop-byte.byte-index c.loop-byte-test.true (sym c.if-not-is_printable.ensures.answer))
-          ∙ c.loop-byte.invariant;
-    }
-
-pub loop-byte-preserved : goal.loop-byte-preserved
-loop-byte-preserved c =
-    sym (printable_more c.args.bytes.now c.loop-byte.byte-index c.loop-byte-test.true (sym c.if-not-is_printable.ensures.answer))
-    ∙ c.loop-byte.invariant
 
 pub returns : goal.returns
 returns c =
-    record { answer = sym (printable_all c.args.bytes.now c.loop-byte.byte-index c.loop-byte-test.false) ∙ c.loop-byte.invariant }
+    record {
+      answer = all_from_yields_List printable _ _ _ c.all.ensures.ran (YieldsList-from_slice c.args.bytes.now cc) (λ x b q k. search (rules, tests));
+    }

@@ -1,28 +1,20 @@
-use Rattle.std.proofs.Common.{◌≡◌, ◌+◌, ◌-◌, ◌/◌, List, length, vec_items, vec_len, arith}
+use Rattle.std.proofs.Common.{◌≡◌, ◌≤◌, List, true, false, ltb, length, vec_items, subst, sym, ap, arith, rules, tests}
+use Rattle.std.proofs.lemmas.List.Sorted.{IsPartitionPoint-from_clause, IsPartitionedBy-ltb}
+use Rattle.std.specs.List.Sorted.{IsNonDecreasingBy, IsPartitionPoint}
 use Rattle.texts.specs.declared.token_tree.Item.{Item}
-use Rattle.texts.proofs.Runs.{list_past, list_read, list_rises}
+use Rattle.texts.proofs.Runs.{below_point, from_point, lists_rise}
 use Rattle.texts.proofs.lists.Texts.first_of.Goals as goal
 
-pub loop-low-init : goal.loop-low-init
-loop-low-init c =
+pub returns : goal.returns
+returns c =
     let items : List Item = vec_items c.args.self.now.items in
-    let long : vec_len c.args.self.now.items ≡ length items = c.args.self.now.items.ok.0 in
-    (omega arith, omega (arith, c.len-high.ensures, long), λ i h. omega arith, λ i h. omega (arith, list_past items i (omega (arith, c.len-high.ensures, long)), c.requires.there))
-
-pub loop-low-preserved : goal.loop-low-preserved
-loop-low-preserved c =
-    let items : List Item = vec_items c.args.self.now.items in (
-      omega arith,
-      omega arith,
-      c.loop-low.invariant.2,
-      λ i h. omega (arith, c.if-index-list.false, list_read items _ c.index.result.now (omega arith) c.index.ensures, list_rises items c.args.self.now.sorted _ i h),
-    )
-
-pub loop-low-preserved-then-index-list : goal.loop-low-preserved-then-index-list
-loop-low-preserved-then-index-list c =
-    let items : List Item = vec_items c.args.self.now.items in (
-      omega arith,
-      omega arith,
-      λ i h. omega (arith, c.if-index-list.true, list_read items _ c.index.result.now (omega arith) c.index.ensures, list_rises items c.args.self.now.sorted i (c.loop-low.low + (c.loop-low.high - c.loop-low.low) / 2) (omega arith)),
-      c.loop-low.invariant.3,
-    )
+    let rise = subst (IsNonDecreasingBy (λ (x : Item). x.list)) (sym c.deref.ensures.value) (lists_rise items c.args.self.now.sorted) in
+    let point = IsPartitionPoint-from_clause (λ (x : Item). ltb x.list c.args.list) c.deref.result.now _ c.partition_point.ensures.partitioned
+    (IsPartitionedBy-ltb (λ (x : Item). x.list) c.deref.result.now c.args.list rise) (λ a r f k. search (rules, tests)) in
+    let found = subst (λ (xs : List Item). IsPartitionPoint (λ (x : Item). ltb x.list c.args.list ≡ true) (λ (x : Item). ltb x.list c.args.list ≡ false) xs c.partition_point.result) c.deref.ensures.value point in
+    let within : c.partition_point.result ≤ length items = omega (arith, c.partition_point.ensures.bound, ap length c.deref.ensures.value) in
+    record {
+      within = within;
+      before = below_point items c.args.list c.partition_point.result within found;
+      after = from_point items c.args.list c.partition_point.result within found c.requires.there;
+    }

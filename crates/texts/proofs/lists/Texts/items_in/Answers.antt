@@ -1,17 +1,7 @@
 use Rattle.std.proofs.Common.{◌-◌, List, take, drop, vec_items, ap, ◌∙◌}
 use Rattle.texts.specs.declared.token_tree.Item.{Item}
-use Rattle.texts.proofs.Runs.{run_is, run_ordered}
+use Rattle.texts.proofs.Runs.{run_is}
 use Rattle.texts.proofs.lists.Texts.items_in.Goals as goal
-
-pub slice_bounds-result-count : goal.slice_bounds-result-count
-slice_bounds-result-count c =
-    run_ordered c.args.list c.first_of-from.result c.first_of-to.result (vec_items c.args.self.now.items)
-    c.first_of-from.ensures.before c.first_of-to.ensures.after
-
-pub slice_bounds-result-start : goal.slice_bounds-result-start
-slice_bounds-result-start c =
-    run_ordered c.args.list c.first_of-from.result c.first_of-to.result (vec_items c.args.self.now.items)
-    c.first_of-from.ensures.before c.first_of-to.ensures.after
 
 pub returns : goal.returns
 returns c =
