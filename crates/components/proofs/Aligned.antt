@@ -1,5 +1,6 @@
 -- The alignment of several concatenations, found one by one.
 use Rattle.std.proofs.Common.{◌≡◌, Bool, true, false, cond, ◌&&◌, ◌||◌, List, [], ◌∷◌, ◌++◌, fold, sym, refl, ap, ◌∙◌, append_assoc, append-nil}
+use Rattle.std.proofs.lemmas.List.Recursion.{and_push, or_push}
 use Rattle.std.proofs.lemmas.Bool.{and_from, and_parts, false≢true}
 use Rattle.components.specs.declared.concatenation.FillerAlign.{FillerAlign}
 use Rattle.components.specs.declared.concatenation.FillerAlign.TheVariants.{None, Single, Lsb, Msb, Mid, Multiple}
@@ -9,14 +10,10 @@ use Rattle.components.specs.Alignments.{all_like, overall, same, together}
 module _ {A : Type 0} where
   -- one more at the end of a list
   some_push : (test : A → Bool) (xs : List A) (x : A) → some_of test (xs ++ x ∷ []) ≡ some_of test xs || test x
-  some_push test [] x = elim (test x) as (λ t. t || false ≡ t) [ true ↦ refl | false ↦ refl ]
-  some_push test (y ∷ ys) x =
-      elim (test y) as (λ t. t || some_of test (ys ++ x ∷ []) ≡ (t || some_of test ys) || test x) [ true ↦ refl | false ↦ some_push test ys x ]
+  some_push test xs x = or_push (some_of test) test refl (λ y ys. refl) xs x
 
   all_push : (test : A → Bool) (xs : List A) (x : A) → all_of test (xs ++ x ∷ []) ≡ all_of test xs && test x
-  all_push test [] x = elim (test x) as (λ t. t && true ≡ t) [ true ↦ refl | false ↦ refl ]
-  all_push test (y ∷ ys) x =
-      elim (test y) as (λ t. t && all_of test (ys ++ x ∷ []) ≡ (t && all_of test ys) && test x) [ true ↦ all_push test ys x | false ↦ refl ]
+  all_push test xs x = and_push (all_of test) test refl (λ y ys. refl) xs x
 
   -- what two tests tell of each, they tell of all
   all_both : (p q r : A → Bool) → ((x : A) → p x ≡ true → q x ≡ true → r x ≡ true) → (xs : List A) → all_of p xs ≡ true → all_of q xs ≡ true → all_of r xs ≡ true

@@ -1,3 +1,2 @@
 pub mod Aligned
 pub mod Walks
-pub mod Widths

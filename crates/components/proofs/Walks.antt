@@ -1,7 +1,5 @@
 -- Walking through a list, for one that passes a test or for all of them.
-use Rattle.std.proofs.Common.{◌≡◌, ℕ, suc, ◌+◌, ◌<◌, ◌≤◌, Bool, true, false, cond, not, ◌&&◌, ◌||◌, eqb, List, [], ◌∷◌, length, get_or, drop, sym, refl, ap, ◌∙◌, one-add}
-use lib.Dec.{eqb-suc-suc, eqb-zero-suc}
-use Rattle.std.specs.List.{prefix_len}
+use Rattle.std.proofs.Common.{◌≡◌, ℕ, ◌+◌, ◌<◌, ◌≤◌, Bool, true, false, ◌&&◌, ◌||◌, List, length, get_or, drop, sym, ap, ◌∙◌}
 use Rattle.std.proofs.lemmas.List.{at_drop_more, at_drop_all}
 use Rattle.components.specs.Concatenations.{some_of, all_of}
 
@@ -36,9 +34,3 @@ module _ {A : Type 0} (test : A → Bool) (xs : List A) (i : ℕ) (so_far : all_
   -- nothing is left
   pub all_done : length xs ≤ i → all_of test xs ≡ true
   all_done h = sym so_far ∙ at_drop_all (all_of test) xs i h
-
--- those before the first that passes are all of them where none does
-pub leading_all : {A : Type 0} (test : A → Bool) (xs : List A) → eqb (prefix_len (λ x. not (test x)) xs) (length xs) ≡ not (some_of test xs)
-leading_all test [] = refl
-leading_all test (x ∷ xs) =
-    elim (test x) as (λ t. eqb (cond (not t) (1 + prefix_len (λ y. not (test y)) xs) 0) (suc (length xs)) ≡ not (t || some_of test xs)) [ true ↦ eqb-zero-suc (length xs) | false ↦ rw one-add (eqb-suc-suc (prefix_len (λ y. not (test y)) xs) (length xs) ∙ leading_all test xs) ]

@@ -3,3 +3,4 @@ pub mod Parts
 pub mod Concatenations
 pub mod Alignments
 pub mod Examples
+pub mod Mapped

@@ -24,10 +24,7 @@ impl<T: Copy> Component<T> {
     pub(crate) fn is_filler(&self) -> bool
         ensures answer { result ≡ filler self.now }
     {
-        match self.c_type {
-            ComponentType::Filler => true,
-            _ => false,
-        }
+        matches!(self.c_type, ComponentType::Filler)
     }
 
     /// Whether it is a filler without end.
@@ -42,10 +39,7 @@ impl<T: Copy> Component<T> {
     pub fn has_full_range(&self) -> bool
         ensures answer { result ≡ full_range self.now }
     {
-        let Some(start) = self.range.start else {
-            return false;
-        };
-        start.is_guaranteed_zero() && self.ends_full()
+        self.range.start.is_some_and(|b| b.is_guaranteed_zero()) && self.ends_full()
     }
 
     // Whether the end is that of a full range.
@@ -54,10 +48,7 @@ impl<T: Copy> Component<T> {
     {
         let end = self.range.end;
         match self.c_type {
-            ComponentType::Literal { width, .. } => match end {
-                Some(b) => b.s.is_none() && b.x >= 0 && b.x as usize == width,
-                None => true,
-            },
+            ComponentType::Literal { width, .. } => end.is_none_or(|b| b.is_static_at(width)),
             ComponentType::Variable(_) => end.is_none(),
             ComponentType::Filler => end.is_some(),
         }
@@ -67,10 +58,7 @@ impl<T: Copy> Component<T> {
     pub fn is_static_literal(&self) -> bool
         ensures answer { result ≡ static_literal self.now }
     {
-        match self.c_type {
-            ComponentType::Literal { .. } => self.range.static_range().is_some(),
-            _ => false,
-        }
+        matches!(self.c_type, ComponentType::Literal { .. }) && self.range.static_range().is_some()
     }
 
     /// Whether the start is absent on a filler without end, and there on everything else.

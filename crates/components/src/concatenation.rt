@@ -1,12 +1,14 @@
 // What a concatenation may be claimed to be: its components are a slice, from the least significant on.
-ghost use Rattle.components.specs.Alignments.{align_at, alignment, first_unbounded, number_of, together};
-ghost use Rattle.components.specs.Concatenations.{certainly_wide, deterministic, of_static_width, some_filler, wide};
-ghost use Rattle.std.specs.Prelude.{◌≡◌};
+ghost use Rattle.components.specs.Alignments.{alignment, number_of, together};
+ghost use Rattle.components.specs.Concatenations.{certainly_wide, deterministic, of_static_width, some_filler, some_of, static_bits, wide};
+ghost use Rattle.components.specs.Parts.{unbounded_filler};
+ghost use Rattle.std.specs.Prelude.{◌≡◌, position};
 
 use crate::component::Component;
 use names::PName;
 
 /// How the filler without end of a concatenation aligns the rest of it.
+// No Option around it: None is the name of an alignment in the rules, with number 0.
 #[derive(Clone, Copy, PartialEq, Eq, Debug)]
 pub enum FillerAlign {
     /// There is no such filler in it; of several concatenations, in one of them.
@@ -24,6 +26,7 @@ pub enum FillerAlign {
 }
 
 impl FillerAlign {
+    // Not a `From`: the name says which number it is.
     /// The number of the alignment, from 0 to 5 in the order above.
     pub fn number(self) -> usize
         ensures answer { result ≡ number_of self }
@@ -48,71 +51,58 @@ impl FillerAlign {
 pub fn is_deterministic<T: Copy>(comps: &[Component<T>]) -> bool
     ensures answer { result ≡ deterministic comps.now }
 {
-    first_unbounded_filler(comps) == comps.len()
+    !has_unbounded_filler(comps)
 }
 
-// The index of the first filler without end, or the number of components where there is none.
-fn first_unbounded_filler<T: Copy>(comps: &[Component<T>]) -> usize
-    ensures answer { result ≡ first_unbounded comps.now }
+// Whether some component is a filler without end.
+fn has_unbounded_filler<T: Copy>(comps: &[Component<T>]) -> bool
+    ensures answer { result ≡ some_of unbounded_filler comps.now }
 {
-    for (i, comp) in comps.iter().enumerate() {
-        if comp.is_unbounded_filler() {
-            return i;
-        }
-    }
-    comps.len()
+    comps.iter().any(|comp| comp.is_unbounded_filler())
+}
+
+// The index of the first filler without end.
+fn first_unbounded_filler<T: Copy>(comps: &[Component<T>]) -> Option<usize>
+    ensures answer { result ≡ position unbounded_filler comps.now }
+{
+    comps.iter().position(|comp| comp.is_unbounded_filler())
 }
 
 /// Whether some component is a filler, with or without end.
 pub fn has_filler<T: Copy>(comps: &[Component<T>]) -> bool
     ensures answer { result ≡ some_filler comps.now }
 {
-    for comp in comps {
-        if comp.is_filler() {
-            return true;
-        }
-    }
-    false
+    comps.iter().any(|comp| comp.is_filler())
 }
 
 /// Whether every component has a static width, their sum is the claimed one, and that is at least 1.
 pub fn has_static_width(comps: &[Component<PName>], claimed: u64) -> bool
     ensures answer { result ≡ of_static_width comps.now claimed }
 {
+    static_bits(comps) == Some(claimed) && claimed >= 1
+}
+
+// The sum of the widths, where all of them are static and it fits 64 bits.
+fn static_bits(comps: &[Component<PName>]) -> Option<u64>
+    ensures answer { result ≡ static_bits comps.now }
+{
     let mut sum: u64 = 0;
     for comp in comps {
-        let Some(width) = comp.range.static_width() else {
-            return false;
-        };
-        let Some(wider) = sum.checked_add(width) else {
-            return false;
-        };
-        sum = wider;
+        sum = sum.checked_add(comp.range.static_width()?)?;
     }
-    sum == claimed && claimed >= 1
+    Some(sum)
 }
 
 /// How the first filler without end aligns the concatenation.
 pub fn filler_alignment<T: Copy>(comps: &[Component<T>]) -> FillerAlign
     ensures answer { result ≡ alignment comps.now }
 {
-    alignment_at(first_unbounded_filler(comps), comps.len())
-}
-
-// How a filler without end at this index aligns a concatenation of so many components.
-fn alignment_at(index: usize, count: usize) -> FillerAlign
-    ensures answer { result ≡ align_at index count }
-{
-    if index >= count {
-        FillerAlign::None
-    } else if count == 1 {
-        FillerAlign::Single
-    } else if index == count - 1 {
-        FillerAlign::Lsb
-    } else if index == 0 {
-        FillerAlign::Msb
-    } else {
-        FillerAlign::Mid
+    match first_unbounded_filler(comps) {
+        None => FillerAlign::None,
+        Some(_) if comps.len() == 1 => FillerAlign::Single,
+        Some(index) if index == comps.len() - 1 => FillerAlign::Lsb,
+        Some(0) => FillerAlign::Msb,
+        Some(_) => FillerAlign::Mid,
     }
 }
 
@@ -120,12 +110,7 @@ fn alignment_at(index: usize, count: usize) -> FillerAlign
 pub fn guaranteed_nonzero(comps: &[Component<PName>]) -> bool
     ensures answer { result ≡ certainly_wide comps.now }
 {
-    for comp in comps {
-        if is_wide(comp) {
-            return true;
-        }
-    }
-    false
+    comps.iter().any(is_wide)
 }
 
 // Whether the component is a variable or a literal of full range, or has a static width of at least 1.

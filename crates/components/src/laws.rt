@@ -6,15 +6,11 @@ ghost use Rattle.components.specs.declared.concatenation.FillerAlign.TheVariants
 ghost use Rattle.std.specs.Prelude.{◌≡◌, List, fold};
 
 /// The alignment of several concatenations is found one by one, from `Single` on, by `with`.
-pub fn aligned_one_by_one() -> u8
+pub fn aligned_one_by_one()
     ensures law { (kinds : List Align) → fold together Single kinds ≡ overall kinds }
-{
-    0
-}
+{}
 
 /// Small cases of the definitions.
-pub fn examples() -> u8
+pub fn examples()
     ensures hold { ExamplesHold }
-{
-    0
-}
+{}

@@ -4,6 +4,7 @@
 mod component;
 mod concatenation;
 mod laws;
+mod mapped;
 mod ranges;
 
 pub use component::{Component, ComponentType};

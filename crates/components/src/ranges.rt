@@ -1,5 +1,5 @@
 // Bounds, and the ranges between them.
-ghost use Rattle.components.specs.Ranges.{bound_within, guaranteed_zero, no_bounds, range_within, range_width, static_range, static_val, within};
+ghost use Rattle.components.specs.Ranges.{guaranteed_zero, no_bounds, range_within, range_width, static_at, static_range, static_val, within};
 ghost use Rattle.std.specs.Prelude.{◌≡◌};
 
 use names::PName;
@@ -20,10 +20,7 @@ impl<T: Copy> Usb<T> {
     pub fn static_val(&self) -> Option<i64>
         ensures answer { result ≡ static_val self.now }
     {
-        match self.s {
-            None => Some(self.x),
-            Some(_) => None,
-        }
+        self.s.is_none().then_some(self.x)
     }
 
     /// Whether the bound is static, and 0.
@@ -33,12 +30,19 @@ impl<T: Copy> Usb<T> {
         self.s.is_none() && self.x == 0
     }
 
+    // Whether the bound is static, and this number.
+    pub(crate) fn is_static_at(&self, n: usize) -> bool
+        ensures answer { result ≡ static_at n self.now }
+    {
+        self.s.is_none() && usize::try_from(self.x) == Ok(n)
+    }
+
     /// Whether x lies from -1,000,000 to 1,000,000, and is not negative in a static bound.
     pub fn within_limits(&self) -> bool
         ensures answer { result ≡ within self.now }
     {
         let lowest = if self.s.is_none() { 0 } else { -LIMIT };
-        lowest <= self.x && self.x <= LIMIT
+        (lowest..=LIMIT).contains(&self.x)
     }
 }
 
@@ -73,17 +77,7 @@ impl<T: Copy> Usbr<T> {
     pub fn within_limits(&self) -> bool
         ensures answer { result ≡ range_within self.now }
     {
-        bound_within_limits(self.start) && bound_within_limits(self.end)
-    }
-}
-
-// Whether the bound is absent, or lies within the limits.
-fn bound_within_limits<T: Copy>(bound: Option<Usb<T>>) -> bool
-    ensures answer { result ≡ bound_within bound }
-{
-    match bound {
-        None => true,
-        Some(b) => b.within_limits(),
+        self.start.is_none_or(|b| b.within_limits()) && self.end.is_none_or(|b| b.within_limits())
     }
 }
 
@@ -95,10 +89,7 @@ impl Usbr<PName> {
     {
         let start = self.start?;
         let end = self.end?;
-        if start.s == end.s && start.x <= end.x {
-            Some(end.x.abs_diff(start.x))
-        } else {
-            None
-        }
+        let forwards = start.s == end.s && start.x <= end.x;
+        forwards.then_some(end.x.abs_diff(start.x))
     }
 }

@@ -3,6 +3,7 @@ use std::alloc::{AllocError, AllocFailed};
 use std::io;
 use texts::Refusal;
 
+// The evening's demonstration has an enum like this one: a library for the two would be longer than both.
 #[derive(Debug, Drop)]
 pub enum Fault {
     Output(io::Error),

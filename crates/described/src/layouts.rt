@@ -2,74 +2,42 @@
 use crate::faults::*;
 use components::{Component, ComponentType, Usb, Usbr};
 use layout::{AWINT_FN_NAMES, AWINT_NAMES, Around, Claims, CodeGen, ConcatClaim, Room};
-use lowering::{Handed, Instruction, Memory, Open};
-use std::alloc::Global;
+use lowering::{Counts, Handed, Lending, Open};
+use std::alloc::{AllocError, Global};
 use std::fmt;
 use texts::Refusal;
 
-/// A variable of the layout: the list that has its name, and its range, if it is not the whole.
+/// The variables of the source, each of them whole: the hands, the deck and all the rest, from the least significant
+/// bit on. The list that has a name is numbered by its place here.
+const SOURCE: [&str; 6] = ["chapter", "flags", "deck", "ada", "ben", "cleo"];
+
+/// A range of a variable: the list that has the variable's name, and where the range starts and ends.
 #[derive(Clone, Copy)]
 pub struct Part {
     list: usize,
     name: &'static str,
-    range: Option<(i64, i64)>,
+    start: i64,
+    end: i64,
 }
-
-/// The hands, the deck and all the rest, from the least significant bit on.
-const SOURCE: [Part; 6] = [
-    Part {
-        list: 0,
-        name: "chapter",
-        range: None,
-    },
-    Part {
-        list: 1,
-        name: "flags",
-        range: None,
-    },
-    Part {
-        list: 2,
-        name: "deck",
-        range: None,
-    },
-    Part {
-        list: 3,
-        name: "ada",
-        range: None,
-    },
-    Part {
-        list: 4,
-        name: "ben",
-        range: None,
-    },
-    Part {
-        list: 5,
-        name: "cleo",
-        range: None,
-    },
-];
 
 /// Where they go.
 const SINK: Part = Part {
     list: 6,
     name: "code",
-    range: Some((0, 155)),
+    start: 0,
+    end: 155,
 };
 
 /// A range that ends before it starts.
 const WRONG: Part = Part {
-    list: 6,
-    name: "code",
-    range: Some((5, 3)),
+    start: 5,
+    end: 3,
+    ..SINK
 };
 
 impl fmt::Display for Part {
     fn fmt<W: fmt::Write>(&self, f: &mut fmt::Formatter<W>) -> fmt::Result {
-        let name = self.name;
-        match self.range {
-            Some((start, end)) => write!(f, "{name}[{start}..{end}]"),
-            None => f.write_str(name),
-        }
+        write!(f, "{}[{}..{}]", self.name, self.start, self.end)
     }
 }
 
@@ -77,47 +45,51 @@ fn at(x: i64) -> Option<Usb<usize>> {
     Some(Usb { s: None, x })
 }
 
-impl Part {
-    fn component(self) -> Component<usize> {
-        let range = match self.range {
-            Some((start, end)) => Usbr {
-                start: at(start),
-                end: at(end),
-            },
-            None => Usbr {
-                start: at(0),
-                end: None,
-            },
-        };
+impl From<Part> for Component<usize> {
+    fn from(part: Part) -> Component<usize> {
         Component {
-            c_type: ComponentType::Variable(self.list),
-            range,
+            c_type: ComponentType::Variable(part.list),
+            range: Usbr {
+                start: at(part.start),
+                end: at(part.end),
+            },
         }
+    }
+}
+
+// The whole of the variable whose name this list has.
+fn whole(list: usize) -> Component<usize> {
+    Component {
+        c_type: ComponentType::Variable(list),
+        range: Usbr {
+            start: at(0),
+            end: None,
+        },
     }
 }
 
 // Describes the packing: the names, the source, and the sink.
 fn describe(open: &mut Open<'_, '_>) -> Result<(), Refusal> {
-    for part in &SOURCE {
-        open.text(part.list, part.name.as_bytes())?;
+    for (list, name) in SOURCE.iter().enumerate() {
+        open.text(list, name.as_bytes())?;
     }
     open.text(SINK.list, SINK.name.as_bytes())?;
     open.concatenation()?;
-    for part in &SOURCE {
-        open.component(part.component())?;
+    for list in 0..SOURCE.len() {
+        open.component(whole(list))?;
     }
     open.concatenation()?;
-    open.component(SINK.component())
+    open.component(Component::from(SINK))
 }
 
 // The components of a concatenation, from the least significant bit on.
-fn listed(heap: Global, parts: &[Part]) -> Result<String, Fault> {
+fn listed(heap: Global, names: &[&str]) -> Result<String, AllocError> {
     let mut text = String::new(heap);
-    for (i, part) in parts.iter().enumerate() {
-        if i > 0 {
+    for name in names {
+        if !text.is_empty() {
             text.push_str(", ")?;
         }
-        text.push_str(&format!(in heap; "{part}")?)?;
+        text.push_str(name)?;
     }
     Ok(text)
 }
@@ -127,7 +99,7 @@ fn show_open(rt: &HostRuntime, mut open: Open<'_, '_>) -> Result<(), Fault> {
     describe(&mut open)?;
     println!(rt; "   source  {}", listed(rt.alloc(), &SOURCE)?)?;
     println!(rt; "   sink    {SINK}")?;
-    if let Err(refusal) = open.component(WRONG.component()) {
+    if let Err(refusal) = open.component(Component::from(WRONG)) {
         let number = refusal.number();
         println!(rt; "   {WRONG} besides is refused by {number}, and nothing is added.")?;
     }
@@ -149,34 +121,18 @@ fn show_open(rt: &HostRuntime, mut open: Open<'_, '_>) -> Result<(), Fault> {
         alignment: 0,
         concatenations: &concatenations,
     };
-    match open.check_seal(&claims) {
-        Ok(()) => {
-            let _sealed = open.seal(claims);
-            println!(rt; "   Sealed: both are 155 bits wide.")?;
-            Ok(())
-        }
-        Err(refusal) => Err(Fault::Undescribed(refusal)),
-    }
+    open.check_seal(&claims)?;
+    let _sealed = open.seal(claims);
+    println!(rt; "   Sealed: both are 155 bits wide.")?;
+    Ok(())
 }
 
 /// Describes the packing as a layout, and prints it.
 pub fn show(rt: &HostRuntime) -> Result<(), Fault> {
     let heap = rt.alloc();
-    let mut bindings = vec![in heap; lowering::no_binding(); 512]?;
-    let mut values = vec![in heap; lowering::no_value(); 2048]?;
-    let mut widths = vec![in heap; lowering::no_width(); 1024]?;
-    let mut sums = vec![in heap; lowering::no_sum(); 16]?;
-    let mut parts = vec![in heap; 0u16; 512]?;
-    let mut instructions = vec![in heap; Instruction::Nothing; 8192]?;
+    let mut lent = Lending::new(heap, &Counts::least())?;
     let room = Room::new(heap)?;
-    let memory = Memory {
-        bindings: &mut bindings,
-        values: &mut values,
-        widths: &mut widths,
-        sums: &mut sums,
-        parts: &mut parts,
-        instructions: &mut instructions,
-    };
+    let memory = lent.memory();
     let handed = Handed {
         names: AWINT_NAMES,
         fn_names: AWINT_FN_NAMES,
@@ -188,8 +144,6 @@ pub fn show(rt: &HostRuntime) -> Result<(), Fault> {
             const_wrapper: Around::NOTHING,
         },
     };
-    match lowering::check_start(&memory, &handed) {
-        Ok(()) => show_open(rt, Open::start(room, memory, handed)),
-        Err(refusal) => Err(Fault::Undescribed(refusal)),
-    }
+    lowering::check_start(&memory, &handed)?;
+    show_open(rt, Open::start(room, memory, handed))
 }

@@ -13,7 +13,7 @@ use Rattle.components.specs.declared.component.ComponentType.{ComponentType}
 use Rattle.components.specs.declared.component.ComponentType.TheVariants.{Literal, Variable, Filler}
 use Rattle.components.specs.declared.ranges.Usb.{Usb}
 use Rattle.layout.specs.Mapping.{bound_text, map_bound, map_type, type_text}
-use Rattle.layout.specs.Naming.{bytes_in, name_of, names_fit, new_text, number_or_0, same_texts, with_text}
+use Rattle.layout.specs.Naming.{bytes_in, kept_if, name_of, names_fit, names_in, new_text, number_or_0, same_texts, with_text}
 
 -- a key has a number exactly if it is known
 pub number_known : (names : List (List ℕ)) (text : List ℕ) → is_some (number_in by_word names text) ≡ known by_word names text
@@ -205,13 +205,13 @@ bound_text_mapped f None = refl
 bound_text_mapped f (Some b) = refl
 
 -- what three texts in turn bring, counted one by one
-pub counted : (names : List (List ℕ)) (a b c : Option (List ℕ)) (n m : ℕ)
+counted_by : (names : List (List ℕ)) (a b c : Option (List ℕ)) (n m : ℕ)
     → n ≡ length names + cond (new_text names a) 1 0 + cond (new_text names b && not (same_texts a b)) 1 0
     + cond ((new_text names c && not (same_texts a c)) && not (same_texts b c)) 1 0
     → m ≡ total names + cond (new_text names a) (bytes_in a) 0 + cond (new_text names b && not (same_texts a b)) (bytes_in b) 0
     + cond ((new_text names c && not (same_texts a c)) && not (same_texts b c)) (bytes_in c) 0
     → (leb n 256 && leb m 16384) ≡ names_fit (with_text (with_text (with_text names a) b) c)
-counted names a b c n m hn hm =
+counted_by names a b c n m hn hm =
     let second : new_text (with_text names a) b ≡ (new_text names b && not (same_texts a b)) = new_with names a b in
     let third : new_text (with_text (with_text names a) b) c ≡ ((new_text names c && not (same_texts a c)) && not (same_texts b c)) =
     new_with (with_text names a) b c ∙ ap (λ (x : Bool). x && not (same_texts b c)) (new_with names a c) in
@@ -236,3 +236,54 @@ counted names a b c n m hn hm =
       ap (λ (x : Bool). cond x (bytes_in c) 0) third,
     ) in
     ap (λ (x : ℕ). leb x 256 && leb m 16384) long ∙ ap (λ (x : ℕ). leb (length (with_text (with_text (with_text names a) b) c)) 256 && leb x 16384) big
+
+-- what is kept of a text that is kept for one reason is kept for both
+kept_new : (names : List (List ℕ)) (a o : Option (List ℕ)) (keep : Bool)
+    → kept_if (not (same_texts a (kept_if keep o))) (kept_if keep o) ≡ kept_if (keep && not (same_texts a o)) o
+kept_new names a None keep = refl
+kept_new names a (Some text) true = refl
+kept_new names a (Some text) false = refl
+
+-- how many names and bytes it has
+kept_names : (o : Option (List ℕ)) (keep : Bool) → (o ≡ None → keep ≡ false) → names_in (kept_if keep o) ≡ cond keep 1 0
+kept_names None keep h = sym (ap {B = ℕ} (λ (b : Bool). cond b 1 0) (h refl))
+kept_names (Some text) true h = refl
+kept_names (Some text) false h = refl
+
+kept_bytes : (o : Option (List ℕ)) (keep : Bool) → bytes_in (kept_if keep o) ≡ cond keep (bytes_in o) 0
+kept_bytes None true = refl
+kept_bytes None false = refl
+kept_bytes (Some text) true = refl
+kept_bytes (Some text) false = refl
+
+-- the new ones of three texts in turn, counted one by one
+pub counted : (names : List (List ℕ)) (a b c : Option (List ℕ)) (n m : ℕ) (p q r s t u : Option (List ℕ))
+    → p ≡ kept_if (new_text names a) a
+    → q ≡ kept_if (new_text names b) b → r ≡ kept_if (not (same_texts a q)) q
+    → s ≡ kept_if (new_text names c) c → t ≡ kept_if (not (same_texts a s)) s → u ≡ kept_if (not (same_texts b t)) t
+    → n ≡ length names + names_in p + names_in r + names_in u
+    → m ≡ total names + bytes_in p + bytes_in r + bytes_in u
+    → (leb n 256 && leb m 16384) ≡ names_fit (with_text (with_text (with_text names a) b) c)
+counted names a b c n m p q r s t u pe qe re se te ue hn hm =
+    let two : r ≡ kept_if (new_text names b && not (same_texts a b)) b =
+    re ∙ ap (λ (o : Option (List ℕ)). kept_if (not (same_texts a o)) o) qe ∙ kept_new names a b (new_text names b) in
+    let before : t ≡ kept_if (new_text names c && not (same_texts a c)) c =
+    te ∙ ap (λ (o : Option (List ℕ)). kept_if (not (same_texts a o)) o) se ∙ kept_new names a c (new_text names c) in
+    let three : u ≡ kept_if ((new_text names c && not (same_texts a c)) && not (same_texts b c)) c =
+    ue ∙ ap (λ (o : Option (List ℕ)). kept_if (not (same_texts b o)) o) before ∙ kept_new names b c (new_text names c && not (same_texts a c)) in
+    counted_by names a b c n m
+    (omega (
+      arith,
+      hn,
+      ap names_in pe ∙ kept_names a (new_text names a) (λ e. ap (new_text names) e),
+      ap names_in two ∙ kept_names b (new_text names b && not (same_texts a b)) (λ e. ap (λ (o : Option (List ℕ)). new_text names o && not (same_texts a o)) e),
+      ap names_in three
+          ∙ kept_names c ((new_text names c && not (same_texts a c)) && not (same_texts b c)) (λ e. ap (λ (o : Option (List ℕ)). (new_text names o && not (same_texts a o)) && not (same_texts b o)) e),
+    ))
+    (omega (
+      arith,
+      hm,
+      ap bytes_in pe ∙ kept_bytes a (new_text names a),
+      ap bytes_in two ∙ kept_bytes b (new_text names b && not (same_texts a b)),
+      ap bytes_in three ∙ kept_bytes c ((new_text names c && not (same_texts a c)) && not (same_texts b c)),
+    ))

@@ -1,13 +1,11 @@
 -- A layout as its accepted calls gave it, and what each call answers and adds.
-use Rattle.std.specs.Prelude.{ℕ, ◌-◌, Bool, cond, not, ◌&&◌, ◌||◌, List, [], ◌∷◌, ◌++◌, length, Some, None, vec_items, Option, nat_le, nat_lt}
-use Rattle.names.specs.Tables.{names_of}
+use Rattle.std.specs.Prelude.{ℕ, ◌-◌, Bool, cond, not, ◌&&◌, ◌||◌, List, [], ◌∷◌, ◌++◌, length, Some, None, Option, nat_le, nat_lt}
 use Rattle.names.specs.declared.numbers.PName.{PName}
 use Rattle.components.specs.Concatenations.{deterministic}
 use Rattle.components.specs.Parts.{fits_literal, fits_start, is_literal, unbounded_filler}
 use Rattle.components.specs.Ranges.{range_within}
 use Rattle.components.specs.declared.component.Component.{Component}
 use Rattle.texts.specs.Lists.{group_refusal, text_refusal}
-use Rattle.texts.specs.Texts.{lists_of}
 use Rattle.texts.specs.Tokens.{flattened}
 use Rattle.texts.specs.declared.refusals.Refusal.{Refusal}
 use Rattle.texts.specs.declared.refusals.Refusal.TheVariants.{NoRoomForItem, NoRoomForPart, WrongStart, BoundOutside, SecondFiller, WrongLiteral, ReversedRange, WrongText, NamesFull}
@@ -16,7 +14,6 @@ use Rattle.layout.specs.Mapping.{map_component}
 use Rattle.layout.specs.Naming.{name_of, names_after, names_fit}
 use Rattle.layout.specs.Reading.{component_reads, reversed}
 use Rattle.layout.specs.Starts.{concat_at}
-use Rattle.layout.specs.declared.ast.Layout.{Layout}
 use Rattle.layout.specs.declared.handed_names.FnNames.{FnNames}
 
 -- its text lists, its names by number, its components, and where each concatenation begins among them
@@ -25,10 +22,6 @@ pub record Described : Type 0 where
   pub names : List (List ℕ)
   pub components : List (Component PName)
   pub starts : List ℕ
-
-abbrev pub described : Layout → Described
-described l =
-    record { lists = lists_of l.texts; names = names_of l.names; components = vec_items l.components; starts = vec_items l.starts }
 
 -- how many concatenations there are, and the components of concatenation k
 abbrev pub concats : Described → ℕ
@@ -42,6 +35,9 @@ abbrev pub last_comps : Described → List (Component PName)
 last_comps d = comps_at d (concats d - 1)
 
 -- texts and groups come before the first concatenation
+abbrev pub begun_answer : Described → Option Refusal
+begun_answer d = cond (nat_lt 0 (concats d)) (Some NoRoomForItem) None
+
 abbrev pub text_answer : Described → ℕ → List ℕ → Option Refusal
 text_answer d list bytes = cond (nat_lt 0 (concats d)) (Some NoRoomForItem) (text_refusal d.lists list bytes)
 

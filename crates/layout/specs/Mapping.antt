@@ -1,11 +1,12 @@
 -- Components with other things in the place of their texts.
 use Rattle.std.specs.Option.{option_map}
-use Rattle.std.specs.Prelude.{Some, None, Option}
 use Rattle.components.specs.declared.ranges.Usb.{Usb}
 use Rattle.components.specs.declared.ranges.Usbr.{Usbr}
 use Rattle.components.specs.declared.component.Component.{Component}
 use Rattle.components.specs.declared.component.ComponentType.{ComponentType}
 use Rattle.components.specs.declared.component.ComponentType.TheVariants.{Literal, Variable, Filler}
+-- the text of a variable, and the texts of a range's bounds
+pub use Rattle.components.specs.Mapped.{bound_text, type_text}
 
 -- a bound, a range, what a component is, and a component, with `f` of each text in the place of the text
 abbrev pub map_bound : {A B : Type 0} → (A → B) → Usb A → Usb B
@@ -21,13 +22,3 @@ map_type f Filler = Filler
 
 abbrev pub map_component : {A B : Type 0} → (A → B) → Component A → Component B
 map_component f c = record { c_type = map_type f c.c_type; range = map_range f c.range }
-
--- the text of a variable, and the texts of a range's bounds
-abbrev pub type_text : {A : Type 0} → ComponentType A → Option A
-type_text (Literal width value) = None
-type_text (Variable text) = Some text
-type_text Filler = None
-
-abbrev pub bound_text : {A : Type 0} → Option (Usb A) → Option A
-bound_text None = None
-bound_text (Some b) = b.s

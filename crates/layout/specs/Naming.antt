@@ -1,5 +1,5 @@
 -- The names that a component brings.
-use Rattle.std.specs.Prelude.{ℕ, Bool, false, not, ◌&&◌, List, length, Some, None, Option, nat_le}
+use Rattle.std.specs.Prelude.{ℕ, Bool, false, cond, not, ◌&&◌, List, length, Some, None, Option, nat_le}
 use Rattle.std.specs.Ordering.{is_eq}
 use Rattle.pool.specs.Firsts.{known, number_in, with_key}
 use Rattle.pool.specs.Words.{by_word}
@@ -41,7 +41,16 @@ abbrev pub new_text : List (List ℕ) → Option (List ℕ) → Bool
 new_text names None = false
 new_text names (Some text) = not (known by_word names text)
 
--- how many bytes it has
+-- the text, if it is one that is to be kept
+abbrev pub kept_if : Bool → Option (List ℕ) → Option (List ℕ)
+kept_if keep None = None
+kept_if keep (Some text) = cond keep (Some text) None
+
+-- how many texts there are, and how many bytes it has
+abbrev pub names_in : Option (List ℕ) → ℕ
+names_in None = 0
+names_in (Some text) = 1
+
 abbrev pub bytes_in : Option (List ℕ) → ℕ
 bytes_in None = 0
 bytes_in (Some text) = length text

@@ -9,7 +9,8 @@ pub struct ConcatClaim {
     pub static_width: Option<u64>,
 }
 
-/// What is claimed of a layout.
+/// What is claimed of a layout: flags and plain numbers, as they are handed in, since wrong ones are refused and not ruled
+/// out.
 #[derive(Clone, Copy)]
 pub struct Claims<'a> {
     /// Whether the layout returns what it builds.

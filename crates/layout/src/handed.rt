@@ -1,11 +1,10 @@
 // Whether what is handed in for the printed text is as it has to be.
 ghost use Rattle.components.specs.Concatenations.{all_of, some_of};
 ghost use Rattle.layout.specs.Handed.{apart, around_handed, code_gen_handed, fits_around, fits_name, fn_names_handed, fn_names_list, names_handed, no_parenthesis, parenthesis};
-ghost use Rattle.layout.specs.Reading.{same_bytes};
-ghost use Rattle.std.specs.Prelude.{◌≡◌, [], ◌∷◌};
+ghost use Rattle.std.specs.Prelude.{◌≡◌, map};
 
 use crate::handed_names::{Around, CodeGen, FnNames, Names};
-use std::cmp::Ordering;
+use crate::reading::are_same;
 
 // Whether a text has at most 64 bytes, all printable.
 fn is_around(text: &[u8]) -> bool
@@ -21,17 +20,11 @@ fn is_name(text: &[u8]) -> bool
     1 <= text.len() && is_around(text)
 }
 
-// Whether each of five texts is a name.
-fn are_names(a: &[u8], b: &[u8], c: &[u8], d: &[u8], e: &[u8]) -> bool
-    ensures answer { result ≡ all_of fits_name (a.now ∷ b.now ∷ c.now ∷ d.now ∷ e.now ∷ []) }
+// Whether each of the texts is a name.
+fn are_names(texts: &[&[u8]]) -> bool
+    ensures answer { result ≡ all_of fits_name (map (λ text. text.now) texts.now) }
 {
-    is_name(a) && is_name(b) && is_name(c) && is_name(d) && is_name(e)
-}
-
-fn are_same(a: &[u8], b: &[u8]) -> bool
-    ensures answer { result ≡ same_bytes a.now b.now }
-{
-    matches!(pool::compare_bytes(a, b), Ordering::Equal)
+    texts.iter().all(|text| is_name(text))
 }
 
 // Whether no two of three texts are the same.
@@ -45,19 +38,14 @@ fn are_apart(a: &[u8], b: &[u8], c: &[u8]) -> bool
 fn has_parenthesis(text: &[u8]) -> bool
     ensures answer { result ≡ some_of parenthesis text.now }
 {
-    for byte in text {
-        if *byte == b'(' {
-            return true;
-        }
-    }
-    false
+    text.contains(&b'(')
 }
 
-// Whether none of three texts does.
-fn lack_parenthesis(a: &[u8], b: &[u8], c: &[u8]) -> bool
-    ensures answer { result ≡ all_of no_parenthesis (a.now ∷ b.now ∷ c.now ∷ []) }
+// Whether none of the texts does.
+fn lack_parenthesis(texts: &[&[u8]]) -> bool
+    ensures answer { result ≡ all_of no_parenthesis (map (λ text. text.now) texts.now) }
 {
-    !has_parenthesis(a) && !has_parenthesis(b) && !has_parenthesis(c)
+    texts.iter().all(|text| !has_parenthesis(text))
 }
 
 impl Names<'_> {
@@ -65,8 +53,18 @@ impl Names<'_> {
     pub fn fit(&self) -> bool
         ensures answer { result ≡ names_handed self.now }
     {
-        are_names(self.constant, self.bind, self.value, self.width, self.cw)
-            && are_names(self.bits_ref, self.awi, self.awi_ref, self.shl, self.res)
+        are_names(&[
+            self.constant,
+            self.bind,
+            self.value,
+            self.width,
+            self.cw,
+            self.bits_ref,
+            self.awi,
+            self.awi_ref,
+            self.shl,
+            self.res,
+        ])
     }
 }
 
@@ -75,25 +73,23 @@ impl FnNames<'_> {
     fn all_names(&self) -> bool
         ensures answer { result ≡ all_of fits_name (fn_names_list self.now) }
     {
-        are_names(
+        are_names(&[
             self.get_bw,
             self.mut_bits_ref,
             self.bits_ref,
             self.usize_cast,
             self.usize_add,
-        ) && (are_names(
             self.usize_sub,
             self.max_fn,
             self.cc_checks_fn,
             self.copy_,
             self.field,
-        ) && are_names(
             self.field_to,
             self.field_from,
             self.field_width,
             self.field_bit,
             self.bw_call,
-        ))
+        ])
     }
 
     /// Whether each of the names has 1 to 64 bytes, all printable, and the three by which a bound's text is known as a
@@ -103,7 +99,7 @@ impl FnNames<'_> {
     {
         self.all_names()
             && are_apart(self.get_bw, self.usize_add, self.usize_sub)
-            && lack_parenthesis(self.get_bw, self.usize_add, self.usize_sub)
+            && lack_parenthesis(&[self.get_bw, self.usize_add, self.usize_sub])
     }
 }
 
@@ -121,10 +117,14 @@ impl CodeGen<'_> {
     pub fn fit(&self) -> bool
         ensures answer { result ≡ code_gen_handed self.now }
     {
-        self.must_use.fit()
-            && self.static_construction_fn.fit()
-            && self.lit_construction_fn.fit()
-            && self.construction_fn.fit()
-            && self.const_wrapper.fit()
+        [
+            self.must_use,
+            self.static_construction_fn,
+            self.lit_construction_fn,
+            self.construction_fn,
+            self.const_wrapper,
+        ]
+        .iter()
+        .all(|around| around.fit())
     }
 }

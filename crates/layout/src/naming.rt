@@ -1,14 +1,16 @@
 // The names that a component brings: whether there is room for them, and their numbers.
-ghost use Rattle.std.specs.Prelude.{◌≡◌, ◌+◌, ◌≤◌, true, not, ◌&&◌, if◌then◌else◌, nat_le};
+ghost use Rattle.std.specs.Prelude.{◌≡◌, ◌+◌, ◌≤◌, true, not, ◌&&◌, Some, nat_le};
 ghost use Rattle.layout.specs.Mapping.{bound_text, map_bound, map_component, map_type, type_text};
-ghost use Rattle.layout.specs.Naming.{bytes_in, name_of, names_after, names_fit, new_text, same_texts, with_text};
+ghost use Rattle.layout.specs.Naming.{bytes_in, kept_if, name_of, names_after, names_fit, names_in, new_text, same_texts, with_text};
 ghost use Rattle.names.specs.Tables.{names_of};
+ghost use Rattle.pool.specs.Firsts.{known};
+ghost use Rattle.pool.specs.Words.{by_word};
 ghost use Rattle.std.specs.Option.{option_map};
 ghost use Rattle.texts.specs.Flats.{flat_text};
 
+use crate::reading;
 use components::{Component, ComponentType, Usb, Usbr};
 use names::{MOST_BYTES, MOST_NAMES, NameTable, PName};
-use std::cmp::Ordering;
 use texts::Flat;
 
 // The text of a variable.
@@ -25,65 +27,36 @@ fn type_text(c_type: &ComponentType<Flat>) -> Option<&Flat>
 fn bound_text(bound: &Option<Usb<Flat>>) -> Option<&Flat>
     ensures text { option_map (λ x. x.now) result ≡ bound_text bound.now }
 {
-    match bound {
-        Some(bound) => bound.s.as_ref(),
-        None => None,
-    }
+    bound.as_ref().and_then(|bound| bound.s.as_ref())
 }
 
-// Whether both texts are there, and are the same.
-fn are_same(a: Option<&Flat>, b: Option<&Flat>) -> bool
-    ensures answer { result ≡ same_texts (option_map (λ t. flat_text t.now) a.entry) (option_map (λ t. flat_text t.now) b.entry) }
+// The text, if it is unknown.
+fn new_text<'a>(names: &NameTable, text: Option<&'a Flat>) -> Option<&'a Flat>
+    ensures text { option_map (λ t. flat_text t.now) result ≡ kept_if (new_text (names_of names.now) (option_map (λ t. flat_text t.now) text.entry)) (option_map (λ t. flat_text t.now) text.entry) }
 {
-    match (a, b) {
-        (Some(a), Some(b)) => {
-            matches!(
-                pool::compare_bytes(a.as_slice(), b.as_slice()),
-                Ordering::Equal
-            )
-        }
-        _ => false,
-    }
+    let text = text?;
+    is_unknown(names, text).then_some(text)
 }
 
-// Whether the text is there, and unknown.
-fn is_new(names: &NameTable, text: Option<&Flat>) -> bool
-    ensures answer { result ≡ new_text (names_of names.now) (option_map (λ t. flat_text t.now) text.entry) }
+fn is_unknown(names: &NameTable, text: &Flat) -> bool
+    ensures answer { result ≡ not (known by_word (names_of names.now) (flat_text text.now)) }
 {
-    match text {
-        Some(text) => names.find(text.as_slice()).is_none(),
-        None => false,
-    }
+    names.find(text.as_slice()).is_none()
 }
 
-// How many bytes a text has that is there.
-fn bytes_of(text: Option<&Flat>) -> usize
-    ensures answer { result ≡ bytes_in (option_map (λ t. flat_text t.now) text.entry) }
-    ensures few { result ≤ 1024 }
+// The text, unless it is the one that comes before it.
+fn text_after<'a>(before: Option<&Flat>, text: Option<&'a Flat>) -> Option<&'a Flat>
+    ensures text { option_map (λ t. flat_text t.now) result ≡ kept_if (not (same_texts (option_map (λ t. flat_text t.now) before.entry) (option_map (λ t. flat_text t.now) text.entry))) (option_map (λ t. flat_text t.now) text.entry) }
 {
-    match text {
-        Some(text) => text.as_slice().len(),
-        None => 0,
-    }
+    let text = text?;
+    is_other(before, text).then_some(text)
 }
 
-// Whether the text is there, unknown, and not the one that comes before it.
-fn is_new_after(names: &NameTable, first: Option<&Flat>, text: Option<&Flat>) -> bool
-    ensures answer { result ≡ (new_text (names_of names.now) (option_map (λ t. flat_text t.now) text.entry) && not (same_texts (option_map (λ t. flat_text t.now) first.entry) (option_map (λ t. flat_text t.now) text.entry))) }
+// Whether the text is not the one before.
+fn is_other(before: Option<&Flat>, text: &Flat) -> bool
+    ensures answer { result ≡ not (same_texts (option_map (λ t. flat_text t.now) before.entry) (Some (flat_text text.now))) }
 {
-    is_new(names, text) && !are_same(first, text)
-}
-
-// Whether the text is there, unknown, and neither of the two that come before it.
-fn is_new_after_both(
-    names: &NameTable,
-    first: Option<&Flat>,
-    second: Option<&Flat>,
-    text: Option<&Flat>,
-) -> bool
-    ensures answer { result ≡ ((new_text (names_of names.now) (option_map (λ t. flat_text t.now) text.entry) && not (same_texts (option_map (λ t. flat_text t.now) first.entry) (option_map (λ t. flat_text t.now) text.entry))) && not (same_texts (option_map (λ t. flat_text t.now) second.entry) (option_map (λ t. flat_text t.now) text.entry))) }
-{
-    is_new_after(names, first, text) && !are_same(second, text)
+    before.is_none_or(|before| !reading::are_same(before.as_slice(), text.as_slice()))
 }
 
 // How many names there are, and how many bytes they have together.
@@ -94,19 +67,19 @@ struct Tally {
 }
 
 impl Tally {
-    // One text more, if it is counted.
-    fn with(self, counted: bool, text: Option<&Flat>) -> Tally
+    // With one name more, if there is one.
+    fn with(self, name: Option<&Flat>) -> Tally
         requires few { (self.names ≤ 1000) × (self.bytes ≤ 100000) }
-        ensures names { result.names ≡ self.names + (if counted then 1 else 0) }
-        ensures bytes { result.bytes ≡ self.bytes + (if counted then bytes_in (option_map (λ t. flat_text t.now) text.entry) else 0) }
+        ensures names { result.names ≡ self.names + names_in (option_map (λ t. flat_text t.now) name.entry) }
+        ensures bytes { result.bytes ≡ self.bytes + bytes_in (option_map (λ t. flat_text t.now) name.entry) }
         ensures few { (result.names ≤ self.names + 1) × (result.bytes ≤ self.bytes + 1024) }
     {
-        if !counted {
-            return self;
-        }
-        Tally {
-            names: self.names + 1,
-            bytes: self.bytes + bytes_of(text),
+        match name {
+            Some(name) => Tally {
+                names: self.names + 1,
+                bytes: self.bytes + name.as_slice().len(),
+            },
+            None => self,
         }
     }
 
@@ -130,9 +103,9 @@ fn fits_with(
         names: names.len(),
         bytes: names.bytes_len(),
     };
-    let one = known.with(is_new(names, first), first);
-    let two = one.with(is_new_after(names, first, second), second);
-    let all = two.with(is_new_after_both(names, first, second, third), third);
+    let one = known.with(new_text(names, first));
+    let two = one.with(text_after(first, new_text(names, second)));
+    let all = two.with(text_after(second, text_after(first, new_text(names, third))));
     all.fits()
 }
 
@@ -164,7 +137,8 @@ fn name_type(names: &mut NameTable, c_type: &ComponentType<Flat>) -> ComponentTy
     }
 }
 
-// Gives a bound's text its number.
+// Gives a bound's text its number. No `map` with a closure that inserts: its contract does not say that the names stay
+// where there is no text, and the proof did not close.
 fn name_bound(names: &mut NameTable, bound: &Option<Usb<Flat>>) -> Option<Usb<PName>>
     requires room { names_fit (with_text (names_of names.old) (bound_text (option_map (map_bound flat_text) bound.now))) ≡ true }
     ensures names { names_of names.new ≡ with_text (names_of names.old) (bound_text (option_map (map_bound flat_text) bound.now)) }

@@ -1,7 +1,6 @@
 // The texts of a component: read from its lists, or refused.
-ghost use Rattle.layout.specs.Mapping.{bound_text, map_bound, map_component, map_type, type_text};
-ghost use Rattle.layout.specs.Reading.{bound_reads, calls, component_reads, digit, every_digit, reads, reserved, reversed, same_lists, variable_reads};
-ghost use Rattle.std.specs.Option.{option_map};
+ghost use Rattle.layout.specs.Mapping.{map_component};
+ghost use Rattle.layout.specs.Reading.{bound_reads, calls, component_reads, every_digit, reads, reserved, reversed, same_bytes, same_lists};
 ghost use Rattle.std.specs.Prelude.{◌≡◌, IfOk, if◌then◌else◌, Some, None};
 ghost use Rattle.texts.specs.Flats.{flat_text};
 ghost use Rattle.texts.specs.Refusals.{refusal};
@@ -10,36 +9,31 @@ ghost use Rattle.texts.specs.Tokens.{flattened};
 ghost use Rattle.texts.specs.declared.refusals.Refusal.TheVariants.{WrongText};
 
 use crate::handed_names::FnNames;
-use components::{Component, ComponentType, Usb, Usbr};
-use std::cmp::Ordering;
+use components::{Component, Usbr};
 use texts::{Flat, Refusal, Texts};
 
-fn is_digit(byte: u8) -> bool
-    ensures answer { result ≡ digit byte }
+// Whether two texts are the same.
+pub(crate) fn are_same(a: &[u8], b: &[u8]) -> bool
+    ensures answer { result ≡ same_bytes a.now b.now }
 {
-    b'0' <= byte && byte <= b'9'
+    a == b
 }
 
 // Whether a text is made of digits alone.
 fn all_digits(text: &[u8]) -> bool
     ensures answer { result ≡ every_digit text.now }
 {
-    for byte in text {
-        if !is_digit(*byte) {
-            return false;
-        }
-    }
-    true
+    text.iter().all(|byte| byte.is_ascii_digit())
 }
 
 // Whether a text begins with a function's name and an opening parenthesis.
 fn calls_of(name: &[u8], text: &[u8]) -> bool
     ensures answer { result ≡ calls name.now text.now }
 {
-    let end = name.len();
-    end < text.len()
-        && matches!(pool::compare_bytes(&text[0..end], name), Ordering::Equal)
-        && text[end] == b'('
+    match text.strip_prefix(name) {
+        Some(rest) => rest.starts_with(&b"("[..]),
+        None => false,
+    }
 }
 
 // Whether a bound may not have this text.
@@ -64,18 +58,6 @@ fn read_list(texts: &Texts, list: usize) -> Result<Flat, Refusal>
     Ok(text)
 }
 
-// The text of a variable's list.
-fn read_type(texts: &Texts, c_type: ComponentType<usize>) -> Result<ComponentType<Flat>, Refusal>
-    ensures refused { refusal result ≡ (if variable_reads (lists_of texts.now) (type_text c_type) then None else Some WrongText) }
-    ensures texts { IfOk result (λ t. map_type flat_text t ≡ map_type (flattened (lists_of texts.now)) c_type) }
-{
-    Ok(match c_type {
-        ComponentType::Literal { width, value } => ComponentType::Literal { width, value },
-        ComponentType::Variable(list) => ComponentType::Variable(read_list(texts, list)?),
-        ComponentType::Filler => ComponentType::Filler,
-    })
-}
-
 // The text of a bound's list, if it is one that a bound may have.
 fn read_bound_text(fn_names: &FnNames<'_>, texts: &Texts, list: usize) -> Result<Flat, Refusal>
     ensures refused { refusal result ≡ (if bound_reads fn_names.now (lists_of texts.now) (Some list) then None else Some WrongText) }
@@ -88,25 +70,6 @@ fn read_bound_text(fn_names: &FnNames<'_>, texts: &Texts, list: usize) -> Result
     Ok(text)
 }
 
-// A bound with its text.
-fn read_bound(
-    fn_names: &FnNames<'_>,
-    texts: &Texts,
-    bound: Option<Usb<usize>>,
-) -> Result<Option<Usb<Flat>>, Refusal>
-    ensures refused { refusal result ≡ (if bound_reads fn_names.now (lists_of texts.now) (bound_text bound) then None else Some WrongText) }
-    ensures texts { IfOk result (λ b. option_map (map_bound flat_text) b ≡ option_map (map_bound (flattened (lists_of texts.now))) bound) }
-{
-    let Some(Usb { s, x }) = bound else {
-        return Ok(None);
-    };
-    let s = match s {
-        Some(list) => Some(read_bound_text(fn_names, texts, list)?),
-        None => None,
-    };
-    Ok(Some(Usb { s, x }))
-}
-
 /// A component with its texts, in the place of the lists that it was given by.
 pub(crate) fn read_component(
     fn_names: &FnNames<'_>,
@@ -116,13 +79,10 @@ pub(crate) fn read_component(
     ensures refused { refusal result ≡ (if component_reads fn_names.now (lists_of texts.now) component then None else Some WrongText) }
     ensures texts { IfOk result (λ c. map_component flat_text c ≡ map_component (flattened (lists_of texts.now)) component) }
 {
-    let c_type = read_type(texts, component.c_type)?;
-    let start = read_bound(fn_names, texts, component.range.start)?;
-    let end = read_bound(fn_names, texts, component.range.end)?;
-    Ok(Component {
-        c_type,
-        range: Usbr { start, end },
-    })
+    component.try_map(
+        |list| read_list(texts, list),
+        |list| read_bound_text(fn_names, texts, list),
+    )
 }
 
 // Whether two lists have the same text.
@@ -139,10 +99,7 @@ fn same_list_text(texts: &Texts, a: usize, b: usize) -> bool
     let mut second = Flat::new();
     texts.flatten(a as u8, &mut first).is_ok()
         && texts.flatten(b as u8, &mut second).is_ok()
-        && matches!(
-            pool::compare_bytes(first.as_slice(), second.as_slice()),
-            Ordering::Equal
-        )
+        && are_same(first.as_slice(), second.as_slice())
 }
 
 /// Whether both bounds are there and have the same text, and the end lies before the start.

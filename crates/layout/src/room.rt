@@ -1,6 +1,5 @@
 // The memory that a layout owns, before it is started.
-ghost use Rattle.layout.specs.Layouts.{described};
-ghost use Rattle.std.specs.Prelude.{◌≡◌, [], length};
+ghost use Rattle.std.specs.Prelude.{◌≡◌, []};
 
 use crate::ast::Layout;
 use std::alloc::{AllocError, Global};
@@ -9,10 +8,10 @@ use std::alloc::{AllocError, Global};
 #[derive(Drop)]
 pub struct Room {
     layout: Layout,
-    ghost lists: { length (described layout).lists ≡ 0 },
-    ghost names: { length (described layout).names ≡ 0 },
-    ghost components: { length (described layout).components ≡ 0 },
-    ghost starts: { length (described layout).starts ≡ 0 },
+    ghost lists: { layout.lists ≡ [] },
+    ghost names: { layout.names ≡ [] },
+    ghost components: { layout.components ≡ [] },
+    ghost starts: { layout.starts ≡ [] },
 }
 
 impl Room {
@@ -24,10 +23,10 @@ impl Room {
 
     /// The layout that has this room, with nothing in it.
     pub fn into_layout(self) -> Layout
-        ensures lists { (described result).lists ≡ [] }
-        ensures names { (described result).names ≡ [] }
-        ensures components { (described result).components ≡ [] }
-        ensures starts { (described result).starts ≡ [] }
+        ensures lists { result.lists ≡ [] }
+        ensures names { result.names ≡ [] }
+        ensures components { result.components ≡ [] }
+        ensures starts { result.starts ≡ [] }
     {
         let Room { layout } = self;
         layout

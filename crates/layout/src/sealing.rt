@@ -3,7 +3,7 @@ ghost use Rattle.std.specs.Prelude.{◌≡◌, ◌<◌, length};
 ghost use Rattle.components.specs.Alignments.{overall};
 ghost use Rattle.components.specs.Concatenations.{all_of, certainly_wide, some_of};
 ghost use Rattle.layout.specs.Claims.{alignments, claims_true, common_true, concat_true, concats_true, filled, gives_width, initial_fits, seal_answer, some_below, width_agrees};
-ghost use Rattle.layout.specs.Layouts.{comps_at, concats, described};
+ghost use Rattle.layout.specs.Layouts.{comps_at, concats};
 ghost use Rattle.texts.specs.Refusals.{refusal};
 
 use crate::ast::Layout;
@@ -17,43 +17,28 @@ fn is_true_of(comps: &[Component<PName>], claim: ConcatClaim) -> bool
     ensures answer { result ≡ concat_true comps.now claim }
 {
     claim.deterministic == components::is_deterministic(comps)
-        && match claim.static_width {
-            Some(width) => components::has_static_width(comps, width),
-            None => true,
-        }
+        && claim
+            .static_width
+            .is_none_or(|width| components::has_static_width(comps, width))
 }
 
 // Whether the static width of a concatenation, if it is claimed, is the common width.
 fn agrees_with(common: Option<u64>, claim: ConcatClaim) -> bool
     ensures answer { result ≡ width_agrees common claim }
 {
-    match (claim.static_width, common) {
-        (None, _) => true,
-        (Some(_), None) => false,
-        (Some(width), Some(common)) => width == common,
-    }
+    claim.static_width.is_none_or(|width| common == Some(width))
 }
 
 fn all_agree(common: Option<u64>, claims: &[ConcatClaim]) -> bool
     ensures answer { result ≡ all_of (width_agrees common) claims.now }
 {
-    for claim in claims {
-        if !agrees_with(common, *claim) {
-            return false;
-        }
-    }
-    true
+    claims.iter().all(|claim| agrees_with(common, *claim))
 }
 
 fn some_width(claims: &[ConcatClaim]) -> bool
     ensures answer { result ≡ some_of gives_width claims.now }
 {
-    for claim in claims {
-        if claim.static_width.is_some() {
-            return true;
-        }
-    }
-    false
+    claims.iter().any(|claim| claim.static_width.is_some())
 }
 
 // Whether the common width is claimed exactly if a static width is, and equals each.
@@ -66,57 +51,41 @@ fn is_common(common: Option<u64>, claims: &[ConcatClaim]) -> bool
 impl Layout {
     // Whether there is a concatenation, and each has a component.
     fn is_filled(&self) -> bool
-        ensures answer { result ≡ filled (described self.now) }
+        ensures answer { result ≡ filled self.now }
     {
-        for k in 0..self.starts.len() {
-            if self.comps_of(k).is_empty() {
-                return false;
-            }
-        }
-        !self.starts.is_empty()
+        self.count() > 0 && (0..self.count()).all(|k| !self.comps_of(k).is_empty())
     }
 
     // Whether there is a claim for each concatenation, and all of them are true.
     fn are_true(&self, claims: &[ConcatClaim]) -> bool
-        ensures answer { result ≡ concats_true (described self.now) claims.now }
+        ensures answer { result ≡ concats_true self.now claims.now }
     {
-        if claims.len() != self.starts.len() {
-            return false;
-        }
-        for k in 0..self.starts.len() {
-            if !is_true_of(self.comps_of(k), claims[k]) {
-                return false;
-            }
-        }
-        true
+        claims.len() == self.count()
+            && claims
+                .iter()
+                .enumerate()
+                .all(|(k, claim)| is_true_of(self.comps_of(k), *claim))
     }
 
     // The alignment of the concatenations together.
     fn alignment(&self) -> FillerAlign
-        ensures answer { result ≡ overall (alignments (described self.now) (concats (described self.now))) }
+        ensures answer { result ≡ overall (alignments self.now (concats self.now)) }
     {
-        let mut align = FillerAlign::Single;
-        for k in 0..self.starts.len() {
-            align = align.with(components::filler_alignment(self.comps_of(k)));
-        }
-        align
+        (0..self.count()).fold(FillerAlign::Single, |align, k| {
+            align.with(components::filler_alignment(self.comps_of(k)))
+        })
     }
 
     // Whether some component certainly has a bit.
     fn has_bit(&self) -> bool
-        ensures answer { result ≡ some_below (λ k. certainly_wide (comps_at (described self.now) k)) (concats (described self.now)) }
+        ensures answer { result ≡ some_below (λ k. certainly_wide (comps_at self.now k)) (concats self.now) }
     {
-        for k in 0..self.starts.len() {
-            if components::guaranteed_nonzero(self.comps_of(k)) {
-                return true;
-            }
-        }
-        false
+        (0..self.count()).any(|k| components::guaranteed_nonzero(self.comps_of(k)))
     }
 
     // Whether all claims are true.
     fn claims_hold(&self, claims: &Claims<'_>) -> bool
-        ensures answer { result ≡ claims_true (described self.now) claims.now.nonzero claims.now.common claims.now.alignment claims.now.concatenations.now }
+        ensures answer { result ≡ claims_true self.now claims.now.nonzero claims.now.common claims.now.alignment claims.now.concatenations.now }
     {
         self.are_true(claims.concatenations)
             && is_common(claims.common, claims.concatenations)
@@ -126,8 +95,8 @@ impl Layout {
 
     // Whether the initial list is one that the layout may have.
     fn initial_fits(&self, returning: bool, initial: Option<usize>) -> bool
-        requires begun { 0 < length (described self.now).starts }
-        ensures answer { result ≡ initial_fits (described self.now) returning initial }
+        requires begun { 0 < length self.now.starts }
+        ensures answer { result ≡ initial_fits self.now returning initial }
     {
         match initial {
             Some(list) => returning && list <= 255,
@@ -137,7 +106,7 @@ impl Layout {
 
     /// Whether the layout may be sealed with these claims. It costs a walk through the components.
     pub fn check_seal(&self, claims: &Claims<'_>) -> Result<(), Refusal>
-        ensures refused { refusal result ≡ seal_answer (described self.now) claims.now.returning claims.now.initial claims.now.nonzero claims.now.common claims.now.alignment claims.now.concatenations.now }
+        ensures refused { refusal result ≡ seal_answer self.now claims.now.returning claims.now.initial claims.now.nonzero claims.now.common claims.now.alignment claims.now.concatenations.now }
     {
         if !self.is_filled() {
             return Err(Refusal::NothingThere);

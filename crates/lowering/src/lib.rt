@@ -4,6 +4,7 @@
 mod describing;
 mod entries;
 mod instruction;
+mod lending;
 mod lent;
 mod marks;
 mod open;
@@ -15,6 +16,7 @@ mod starting;
 
 pub use entries::{no_binding, no_sum, no_value, no_width};
 pub use instruction::Instruction;
+pub use lending::{Counts, Lending};
 pub use lent::{Handed, Memory};
 pub use marks::{BindMarks, SumMarks, ValueMarks, WidthMarks};
 pub use open::Open;

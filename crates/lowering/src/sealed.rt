@@ -1,12 +1,11 @@
 // The stage of a sealed layout.
-use crate::lent::{Handed, Memory};
-use layout::{Claims, Layout};
+use crate::open::Open;
+use layout::Claims;
 
 /// A layout whose description has ended, with what it was claimed to be.
 #[derive(Drop)]
 pub struct Sealed<'a, 'n, 'c> {
-    pub(crate) layout: Layout,
-    pub(crate) memory: Memory<'a>,
-    pub(crate) handed: Handed<'n>,
+    // The layout as it was described, with the memory and the names that came with it.
+    pub(crate) open: Open<'a, 'n>,
     pub(crate) claims: Claims<'c>,
 }

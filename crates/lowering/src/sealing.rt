@@ -1,5 +1,4 @@
 // The end of a description.
-ghost use Rattle.layout.specs.Layouts.{described};
 ghost use Rattle.lowering.specs.Sealing.{claimed_answer};
 ghost use Rattle.std.specs.Prelude.{◌≡◌, None};
 ghost use Rattle.texts.specs.Refusals.{refusal};
@@ -12,29 +11,17 @@ use texts::Refusal;
 impl<'a, 'n> Open<'a, 'n> {
     /// Whether the layout may be sealed with these claims.
     pub fn check_seal(&self, claims: &Claims<'_>) -> Result<(), Refusal>
-        ensures refused { refusal result ≡ claimed_answer (described self.now.layout) claims.now }
+        ensures refused { refusal result ≡ claimed_answer self.now.layout claims.now }
     {
         self.layout.check_seal(claims)
     }
 
     /// Seals the layout: from here on it is not described further.
     pub fn seal<'c>(self, claims: Claims<'c>) -> Sealed<'a, 'n, 'c>
-        requires check { claimed_answer (described self.layout) claims ≡ None }
-        ensures layout { result.layout ≡ self.entry.layout }
-        ensures memory { result.memory ≡ self.entry.memory }
-        ensures handed { result.handed ≡ self.entry.handed }
+        requires check { claimed_answer self.layout claims ≡ None }
+        ensures open { result.open ≡ self.entry }
         ensures claims { result.claims ≡ claims.entry }
     {
-        let Open {
-            layout,
-            memory,
-            handed,
-        } = self;
-        Sealed {
-            layout,
-            memory,
-            handed,
-            claims,
-        }
+        Sealed { open: self, claims }
     }
 }

@@ -54,20 +54,8 @@ fn handed() -> Handed<'static> {
 fn descriptions(rt: HostRuntime) -> Result<(), Fail> {
     let heap = rt.alloc();
     let room = Room::new(heap)?;
-    let mut bindings = vec![in heap; no_binding(); 512]?;
-    let mut values = vec![in heap; no_value(); 2048]?;
-    let mut widths = vec![in heap; no_width(); 1024]?;
-    let mut sums = vec![in heap; no_sum(); 16]?;
-    let mut parts = vec![in heap; 0u16; 512]?;
-    let mut instructions = vec![in heap; Instruction::Nothing; 8192]?;
-    let memory = Memory {
-        bindings: &mut bindings,
-        values: &mut values,
-        widths: &mut widths,
-        sums: &mut sums,
-        parts: &mut parts,
-        instructions: &mut instructions,
-    };
+    let mut lending = Lending::new(heap, &Counts::least())?;
+    let memory = lending.memory();
     let handed = handed();
     check_start(&memory, &handed)?;
     let mut open = Open::start(room, memory, handed);
@@ -90,21 +78,11 @@ fn descriptions(rt: HostRuntime) -> Result<(), Fail> {
 // One sum less than has to be lent, and a name that has an opening parenthesis.
 #[test]
 fn refused_starts(rt: HostRuntime) -> Result<(), Fail> {
-    let heap = rt.alloc();
-    let mut bindings = vec![in heap; no_binding(); 512]?;
-    let mut values = vec![in heap; no_value(); 2048]?;
-    let mut widths = vec![in heap; no_width(); 1024]?;
-    let mut sums = vec![in heap; no_sum(); 15]?;
-    let mut parts = vec![in heap; 0u16; 512]?;
-    let mut instructions = vec![in heap; Instruction::Nothing; 8192]?;
-    let memory = Memory {
-        bindings: &mut bindings,
-        values: &mut values,
-        widths: &mut widths,
-        sums: &mut sums,
-        parts: &mut parts,
-        instructions: &mut instructions,
-    };
+    let mut counts = Counts::least();
+    counts.sums = 15;
+    let mut lending = Lending::new(rt.alloc(), &counts)?;
+    let memory = lending.memory();
+    assert_eq!(rt; memory.sums.len(), 15);
     assert!(rt; check_start(&memory, &handed()).is_err());
     let mut fn_names = handed().fn_names;
     assert!(rt; fn_names.fit());

@@ -1,9 +1,9 @@
 // The start of a description.
-ghost use Rattle.layout.specs.Layouts.{described};
 ghost use Rattle.lowering.specs.Starting.{enough, handed_fits, start_answer};
 ghost use Rattle.std.specs.Prelude.{◌≡◌, [], None};
 ghost use Rattle.texts.specs.Refusals.{refusal};
 
+use crate::lending::Counts;
 use crate::lent::{Handed, Memory};
 use crate::open::Open;
 use layout::Room;
@@ -14,12 +14,13 @@ impl Memory<'_> {
     fn is_enough(&self) -> bool
         ensures answer { result ≡ enough self.now }
     {
-        512 <= self.bindings.len()
-            && 2048 <= self.values.len()
-            && 1024 <= self.widths.len()
-            && 16 <= self.sums.len()
-            && 512 <= self.parts.len()
-            && 8192 <= self.instructions.len()
+        let least = Counts::least();
+        least.bindings <= self.bindings.len()
+            && least.values <= self.values.len()
+            && least.widths <= self.widths.len()
+            && least.sums <= self.sums.len()
+            && least.parts <= self.parts.len()
+            && least.instructions <= self.instructions.len()
     }
 }
 
@@ -48,10 +49,10 @@ impl<'a, 'n> Open<'a, 'n> {
     /// Starts a description that has nothing in it.
     pub fn start(room: Room, memory: Memory<'a>, handed: Handed<'n>) -> Open<'a, 'n>
         requires check { start_answer memory handed ≡ None }
-        ensures lists { (described result.layout).lists ≡ [] }
-        ensures names { (described result.layout).names ≡ [] }
-        ensures components { (described result.layout).components ≡ [] }
-        ensures starts { (described result.layout).starts ≡ [] }
+        ensures lists { result.layout.lists ≡ [] }
+        ensures names { result.layout.names ≡ [] }
+        ensures components { result.layout.components ≡ [] }
+        ensures starts { result.layout.starts ≡ [] }
         ensures memory { result.memory ≡ memory.entry }
         ensures handed { result.handed ≡ handed.entry }
     {

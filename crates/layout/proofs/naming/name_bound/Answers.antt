@@ -3,8 +3,7 @@ use Rattle.std.specs.Option.{option_map}
 use Rattle.pool.specs.Firsts.{with_key}
 use Rattle.pool.specs.Words.{by_word}
 use Rattle.names.specs.Tables.{names_of}
-use Rattle.texts.specs.Flats.{flat_text}
-use Rattle.texts.specs.declared.room.Flat.{Flat}
+use Rattle.texts.specs.Flats.{Flat, flat_text}
 use Rattle.components.specs.declared.ranges.Usb.{Usb}
 use Rattle.layout.specs.Mapping.{bound_text, map_bound}
 use Rattle.layout.specs.Naming.{names_fit, with_text}

@@ -2,8 +2,7 @@ use Rattle.std.proofs.Common.{◌≡◌, ℕ, true, List, sym, ap, ◌∙◌, ar
 use Rattle.pool.specs.Firsts.{with_key}
 use Rattle.pool.specs.Words.{by_word}
 use Rattle.names.specs.Tables.{names_of}
-use Rattle.texts.specs.Flats.{flat_text}
-use Rattle.texts.specs.declared.room.Flat.{Flat}
+use Rattle.texts.specs.Flats.{Flat, flat_text}
 use Rattle.components.specs.declared.component.ComponentType.{ComponentType}
 use Rattle.layout.specs.Mapping.{map_type, type_text}
 use Rattle.layout.specs.Naming.{names_fit, with_text}

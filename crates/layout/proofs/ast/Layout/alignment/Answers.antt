@@ -1,29 +1,21 @@
-use Rattle.std.proofs.Common.{◌≡◌, ℕ, sym, ap, ◌∙◌, add-one, arith}
-use Rattle.layout.specs.Layouts.{Described, comps_at, concats, described}
+use Rattle.std.proofs.Common.{rules, ◌≡◌, ℕ, refl, ap, ◌∙◌, arith}
+use Rattle.std.proofs.lemmas.Iterator.{YieldsList-from_range}
+use Rattle.std.proofs.lemmas.Iterator.Consumers.{fold_from_yields_List}
 use Rattle.components.specs.Alignments.{alignment, overall, together}
 use Rattle.components.specs.declared.concatenation.FillerAlign.{FillerAlign}
-use Rattle.components.proofs.Aligned.{overall_more}
+use Rattle.components.specs.declared.concatenation.FillerAlign.TheVariants.{Single}
 use Rattle.layout.specs.Claims.{alignments}
+use Rattle.layout.specs.Layouts.{Described, comps_at, concats}
+use Rattle.layout.proofs.Walked.{overall_range}
 use Rattle.layout.proofs.ast.Layout.alignment.Goals as goal
-
-pub loop-k-preserved : goal.loop-k-preserved
-loop-k-preserved c =
-    let d : Described = described c.args.self.now in
-    let n : ℕ = concats d in
-    let k : ℕ = c.loop-k.k in
-    let long : c.len-k-end.result ≡ n = c.len-k-end.ensures ∙ c.args.self.now.starts.ok.0 in
-    let here : c.filler_alignment.result ≡ alignment (comps_at d k) = c.filler_alignment.ensures.answer ∙ ap alignment c.comps_of.ensures.comps in
-    c.with-align.ensures.answer
-    ∙ ap (λ (a : FillerAlign). together a c.filler_alignment.result) c.loop-k.invariant
-    ∙ ap (together (overall (alignments d k))) here
-    ∙ sym (overall_more (alignments d k) (alignment (comps_at d k)))
-    ∙ ap (λ (m : ℕ). overall (alignments d m)) (sym (add-one k))
 
 pub returns : goal.returns
 returns c =
-    let d : Described = described c.args.self.now in
-    let n : ℕ = concats d in
-    let k : ℕ = c.loop-k.k in
-    let long : c.len-k-end.result ≡ n = c.len-k-end.ensures ∙ c.args.self.now.starts.ok.0 in
-    let done : k ≡ n = omega (arith, long, c.loop-k-test.false, c.loop-k.auto.k-end) in
-    record { answer = c.loop-k.invariant ∙ ap (λ (m : ℕ). overall (alignments d m)) done }
+    let d : Described = c.args.self.now in
+    let n : ℕ = c.count.result in
+    let long : n ≡ concats d = c.count.ensures.answer in
+    record {
+      answer = fold_from_yields_List _ (λ (a : FillerAlign) (k : ℕ). together a (alignment (comps_at d k))) Single c.fold.result c.fold.ensures.ran (YieldsList-from_range 0 n n refl (omega arith)) (λ a x b q k. search rules)
+          ∙ overall_range d n
+          ∙ ap (λ (m : ℕ). overall (alignments d m)) long;
+    }
