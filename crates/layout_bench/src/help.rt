@@ -1,7 +1,5 @@
 // What the program says of itself.
-use std::io;
-
-const HELP: &str = "\
+pub const HELP: &str = "\
 layout_bench: reads commands from standard input, one a line, and prints an answer to each.
 
   host words WIDTHS NUMBERS STORAGE   a host over words, as: host words 3,5 7 0xab,0x0
@@ -31,7 +29,3 @@ Blank lines and lines that begin with # are passed over.
 In quotes, \\\" and \\\\ stand for the second sign, and \\xHH for any byte.
 A line that is none of these answers `unreadable`; one that needs a host, room for a window or an
 open layout, and has none, answers `out of turn`. Neither changes anything.";
-
-pub fn print(rt: &HostRuntime) -> io::Result<()> {
-    println!(rt; "{HELP}")
-}

@@ -2,11 +2,8 @@
 #![tactic(auto)]
 
 mod answers;
-mod bench;
-mod handing;
 mod help;
 mod kept;
-mod lending;
 mod naming;
 mod serving;
 mod settings;
@@ -17,7 +14,7 @@ use std::{env, io};
 // With an argument it prints the help, whatever the argument is.
 fn main(rt: HostRuntime) -> io::Result<()> {
     if env::args(&rt)?.count() > 1 {
-        return help::print(&rt);
+        return println!(&rt; "{}", help::HELP);
     }
     stages::run(&rt)
 }

@@ -1,159 +1,160 @@
 // The stages of a layout, one loop for each.
-use crate::answers::*;
-use crate::lending::Lending;
-use crate::serving::{Next, Table, say};
+use crate::answers::Answer;
+use crate::serving::{Asked, Input, Table, say, say_out_of_turn};
 use crate::settings::Settings;
 use layout::Room;
-use lowering::{Memory, Open, Sealed};
+use lowering::{Lending, Open, Sealed};
 use script::{Build, Sealing};
 use std::alloc::{AllocError, Global};
 use std::io;
+use std::io::{BufRead, BufReader};
 use texts::Refusal;
 
-// Why a loop ends: the input does, or a `start` was read. Where a layout stands, such a start is one that is accepted.
+// A `start` that was read. Where a layout stands, it is one that is accepted.
 #[derive(Clone, Copy)]
-enum Ending {
-    End,
-    Start,
-}
+struct Start;
 
-// Why no more calls build an open layout.
+// What ends the building of an open layout.
 #[derive(Drop)]
 enum Closed {
-    End,
-    Start,
+    Start(Start),
     Seal(Sealing),
 }
 
 // Whether a start with these settings is accepted.
 fn would_start(heap: Global, settings: &Settings) -> Result<Result<(), Refusal>, AllocError> {
-    let mut lent = Lending::new(heap, &settings.entries)?;
-    let memory = Memory {
-        bindings: &mut lent.bindings,
-        values: &mut lent.values,
-        widths: &mut lent.widths,
-        sums: &mut lent.sums,
-        parts: &mut lent.parts,
-        instructions: &mut lent.instructions,
-    };
+    let mut lent = Lending::new(heap, &settings.counts)?;
     let handed = settings.texts.handed();
-    Ok(lowering::check_start(&memory, &handed))
+    Ok(lowering::check_start(&lent.memory(), &handed))
 }
 
-// Serves lines while there is no layout, up to a `start`.
-fn serve_none(rt: &HostRuntime, table: &mut Table) -> io::Result<Ending> {
-    for _ in 0..u64::MAX {
-        match table.next(rt)? {
-            Next::End => return Ok(Ending::End),
-            Next::Start => return Ok(Ending::Start),
-            Next::Build(_) => say(rt, Answer::OutOfTurn)?,
+// Serves lines while there is no layout, up to a `start`. A loop holds the input while the table serves a line, so that the two
+// are lent apart.
+fn serve_none(rt: &HostRuntime, input: &mut Input, table: &mut Table) -> io::Result<Option<Start>> {
+    for line in input {
+        match table.serve(rt, &line?)? {
+            Some(Asked::Start) => return Ok(Some(Start)),
+            Some(Asked::Build(_)) => say_out_of_turn(rt)?,
+            None => {}
         }
     }
-    Ok(Ending::End)
+    Ok(None)
 }
 
 // Serves lines while a sealed layout stands, up to a `start` that is accepted.
 fn serve_sealed(
     rt: &HostRuntime,
+    input: &mut Input,
     table: &mut Table,
     _sealed: &Sealed<'_, '_, '_>,
-) -> io::Result<Ending> {
-    for _ in 0..u64::MAX {
-        match table.next(rt)? {
-            Next::End => return Ok(Ending::End),
-            Next::Start => match would_start(rt.alloc(), &table.settings)? {
-                Ok(()) => return Ok(Ending::Start),
-                Err(refusal) => say(rt, settled(Err(refusal)))?,
+) -> io::Result<Option<Start>> {
+    for line in input {
+        match table.serve(rt, &line?)? {
+            Some(Asked::Start) => match would_start(rt.alloc(), &table.settings)? {
+                Ok(()) => return Ok(Some(Start)),
+                refused => say(rt, Answer::Layout(refused))?,
             },
-            Next::Build(_) => say(rt, Answer::OutOfTurn)?,
+            Some(Asked::Build(_)) => say_out_of_turn(rt)?,
+            None => {}
         }
     }
-    Ok(Ending::End)
+    Ok(None)
 }
 
 // Serves lines while an open layout stands, up to a `seal` that is read or a `start` that is accepted.
-fn serve_open(rt: &HostRuntime, table: &mut Table, open: &mut Open<'_, '_>) -> io::Result<Closed> {
-    for _ in 0..u64::MAX {
-        let result = match table.next(rt)? {
-            Next::End => return Ok(Closed::End),
-            Next::Start => match would_start(rt.alloc(), &table.settings)? {
-                Ok(()) => return Ok(Closed::Start),
-                Err(refusal) => Err(refusal),
+fn serve_open(
+    rt: &HostRuntime,
+    input: &mut Input,
+    table: &mut Table,
+    open: &mut Open<'_, '_>,
+) -> io::Result<Option<Closed>> {
+    for line in input {
+        let result = match table.serve(rt, &line?)? {
+            None => continue,
+            Some(Asked::Start) => match would_start(rt.alloc(), &table.settings)? {
+                Ok(()) => return Ok(Some(Closed::Start(Start))),
+                refused => refused,
             },
-            Next::Build(Build::Text { list, bytes }) => open.text(list, &bytes),
-            Next::Build(
+            Some(Asked::Build(build)) => match build {
+                Build::Text { list, bytes } => open.text(list, &bytes),
                 Build::Group {
                     list,
                     delimiter,
                     child,
-                },
-            ) => open.group(list, delimiter, child),
-            Next::Build(Build::Concatenation) => open.concatenation(),
-            Next::Build(Build::Component(component)) => open.component(component),
-            Next::Build(Build::Seal(sealing)) => return Ok(Closed::Seal(sealing)),
+                } => open.group(list, delimiter, child),
+                Build::Concatenation => open.concatenation(),
+                Build::Component(component) => open.component(component),
+                Build::Seal(sealing) => return Ok(Some(Closed::Seal(sealing))),
+            },
         };
-        say(rt, settled(result))?;
+        say(rt, Answer::Layout(result))?;
     }
-    Ok(Closed::End)
+    Ok(None)
 }
 
 // Serves an open layout, and then the sealed one that it becomes.
-fn serve_layout(rt: &HostRuntime, table: &mut Table, mut open: Open<'_, '_>) -> io::Result<Ending> {
+fn serve_layout(
+    rt: &HostRuntime,
+    input: &mut Input,
+    table: &mut Table,
+    mut open: Open<'_, '_>,
+) -> io::Result<Option<Start>> {
+    // The language wants a count where a loop ends with its input: each turn reads a line.
     for _ in 0..u64::MAX {
-        match serve_open(rt, table, &mut open)? {
-            Closed::End => return Ok(Ending::End),
-            Closed::Start => return Ok(Ending::Start),
-            Closed::Seal(sealing) => {
+        match serve_open(rt, input, table, &mut open)? {
+            None => return Ok(None),
+            Some(Closed::Start(start)) => return Ok(Some(start)),
+            Some(Closed::Seal(sealing)) => {
                 let claims = sealing.claims();
                 match open.check_seal(&claims) {
                     Ok(()) => {
                         let sealed = open.seal(claims);
-                        say(rt, Answer::Done)?;
-                        return serve_sealed(rt, table, &sealed);
+                        say(rt, Answer::Layout(Ok(())))?;
+                        return serve_sealed(rt, input, table, &sealed);
                     }
-                    Err(refusal) => say(rt, settled(Err(refusal)))?,
+                    refused => say(rt, Answer::Layout(refused))?,
                 }
             }
         }
     }
-    Ok(Ending::End)
+    Ok(None)
 }
 
 // Begins a layout, if the start is accepted, and serves it. The texts are those of now, whatever is set later.
-fn serve_start(rt: &HostRuntime, table: &mut Table) -> io::Result<Ending> {
+fn serve_start(
+    rt: &HostRuntime,
+    input: &mut Input,
+    table: &mut Table,
+) -> io::Result<Option<Start>> {
     let texts = table.settings.texts;
-    let mut lent = Lending::new(rt.alloc(), &table.settings.entries)?;
+    let mut lent = Lending::new(rt.alloc(), &table.settings.counts)?;
     let room = Room::new(rt.alloc())?;
-    let memory = Memory {
-        bindings: &mut lent.bindings,
-        values: &mut lent.values,
-        widths: &mut lent.widths,
-        sums: &mut lent.sums,
-        parts: &mut lent.parts,
-        instructions: &mut lent.instructions,
-    };
+    let memory = lent.memory();
     let handed = texts.handed();
     match lowering::check_start(&memory, &handed) {
         Ok(()) => {
             let open = Open::start(room, memory, handed);
-            say(rt, Answer::Done)?;
-            serve_layout(rt, table, open)
+            say(rt, Answer::Layout(Ok(())))?;
+            serve_layout(rt, input, table, open)
         }
-        Err(refusal) => {
-            say(rt, settled(Err(refusal)))?;
-            serve_none(rt, table)
+        refused => {
+            say(rt, Answer::Layout(refused))?;
+            serve_none(rt, input, table)
         }
     }
 }
 
 pub fn run(rt: &HostRuntime) -> io::Result<()> {
-    let mut table = Table::new(rt)?;
-    let mut ending = serve_none(rt, &mut table)?;
+    let heap = rt.alloc();
+    let mut input = BufReader::new(heap, rt.stdin())?.split(heap, b'\n');
+    let mut table = Table::new(heap);
+    let mut start = serve_none(rt, &mut input, &mut table)?;
+    // The language wants a count where a loop ends with its input: each turn reads a line, or is the last.
     for _ in 0..u64::MAX {
-        ending = match ending {
-            Ending::End => return Ok(()),
-            Ending::Start => serve_start(rt, &mut table)?,
+        let Some(Start) = start else {
+            break;
         };
+        start = serve_start(rt, &mut input, &mut table)?;
     }
     Ok(())
 }

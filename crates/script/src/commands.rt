@@ -1,72 +1,32 @@
 // The commands that lines spell.
-use crate::faults::*;
-use crate::hosts::{AskVerb, Recipe, Request};
-use crate::layouts::{Build, BuildVerb};
-use crate::lines::Line;
-use crate::settings::{SetVerb, Setting};
-use crate::{hosts, layouts, settings, tables};
-use std::alloc::Global;
+use crate::layouts::Build;
+use crate::settings::Setting;
+use crate::{layouts, settings};
+use host_bench::Request;
+use lines::{FromLine, Line, Misread};
 
+/// A command, by what it is for.
 #[derive(Drop)]
 pub enum Command {
-    Host(Recipe),
-    Ask(Request),
+    Host(Request),
     Set(Setting),
     Start,
     Build(Build),
 }
 
-// What a command begins with.
-#[derive(Clone, Copy)]
-enum Verb {
-    Host,
-    Ask(AskVerb),
-    Set(SetVerb),
-    Start,
-    Build(BuildVerb),
-}
-
-const VERBS: [(&[u8], Verb); 16] = [
-    (b"host", Verb::Host),
-    (b"window", Verb::Ask(AskVerb::Window)),
-    (b"width", Verb::Ask(AskVerb::Width)),
-    (b"number", Verb::Ask(AskVerb::Number)),
-    (b"read", Verb::Ask(AskVerb::Read)),
-    (b"write", Verb::Ask(AskVerb::Write)),
-    (b"storage", Verb::Ask(AskVerb::Storage)),
-    (b"name", Verb::Set(SetVerb::Name)),
-    (b"around", Verb::Set(SetVerb::Around)),
-    (b"entries", Verb::Set(SetVerb::Entries)),
-    (b"start", Verb::Start),
-    (b"text", Verb::Build(BuildVerb::Text)),
-    (b"group", Verb::Build(BuildVerb::Group)),
-    (b"concatenation", Verb::Build(BuildVerb::Concatenation)),
-    (b"component", Verb::Build(BuildVerb::Component)),
-    (b"seal", Verb::Build(BuildVerb::Seal)),
-];
-
-// The command that begins so.
-fn parse_command(heap: Global, verb: Verb, line: &mut Line) -> Result<Command, Misread> {
-    match verb {
-        Verb::Host => Ok(Command::Host(hosts::parse_host(heap, line)?)),
-        Verb::Ask(verb) => Ok(Command::Ask(hosts::parse_request(heap, verb, line)?)),
-        Verb::Set(verb) => Ok(Command::Set(settings::parse_setting(heap, verb, line)?)),
-        Verb::Start => Ok(Command::Start),
-        Verb::Build(verb) => Ok(Command::Build(layouts::parse_build(heap, verb, line)?)),
+impl FromLine for Command {
+    fn from_line(first: &[u8], line: &mut Line<'_>) -> Result<Command, Misread> {
+        Ok(match first {
+            b"name" => Command::Set(settings::read_name(line)?),
+            b"around" => Command::Set(settings::read_around(line)?),
+            b"entries" => Command::Set(settings::read_entries(line)?),
+            b"start" => Command::Start,
+            b"text" => Command::Build(layouts::read_text(line)?),
+            b"group" => Command::Build(layouts::read_group(line)?),
+            b"concatenation" => Command::Build(Build::Concatenation),
+            b"component" => Command::Build(layouts::read_component(line)?),
+            b"seal" => Command::Build(layouts::read_seal(line)?),
+            _ => Command::Host(Request::from_line(first, line)?),
+        })
     }
-}
-
-/// The command of a line, or none where the line is blank or a comment.
-pub fn parse(heap: Global, bytes: &[u8]) -> Result<Option<Command>, Misread> {
-    let mut line = Line::new(bytes);
-    let Some(first) = line.next_word() else {
-        return Ok(None);
-    };
-    if let [b'#', ..] = first {
-        return Ok(None);
-    }
-    let verb = tables::look_up(&VERBS, first).ok_or(Misread::Unreadable)?;
-    let command = parse_command(heap, verb, &mut line)?;
-    line.end()?;
-    Ok(Some(command))
 }

@@ -1,7 +1,5 @@
 // What is set for the starts to come: names, texts around, and entries.
-use crate::faults::*;
-use crate::lines::Line;
-use std::alloc::Global;
+use lines::{Line, Misread};
 
 /// A name that a start hands in.
 #[derive(Clone, Copy)]
@@ -71,85 +69,93 @@ pub enum Setting {
     },
 }
 
-// Names by the fields that hold them.
-const NAMES: [(&[u8], NameOf); 25] = [
-    (b"constant", NameOf::Constant),
-    (b"bind", NameOf::Bind),
-    (b"value", NameOf::Value),
-    (b"width", NameOf::Width),
-    (b"cw", NameOf::Cw),
-    (b"names.bits_ref", NameOf::Reference),
-    (b"awi", NameOf::Awi),
-    (b"awi_ref", NameOf::AwiRef),
-    (b"shl", NameOf::Shl),
-    (b"res", NameOf::Res),
-    (b"get_bw", NameOf::GetBw),
-    (b"mut_bits_ref", NameOf::MutBitsRef),
-    (b"fn_names.bits_ref", NameOf::BitsRef),
-    (b"usize_cast", NameOf::UsizeCast),
-    (b"usize_add", NameOf::UsizeAdd),
-    (b"usize_sub", NameOf::UsizeSub),
-    (b"max_fn", NameOf::MaxFn),
-    (b"cc_checks_fn", NameOf::CcChecksFn),
-    (b"copy_", NameOf::CopyFn),
-    (b"field", NameOf::Field),
-    (b"field_to", NameOf::FieldTo),
-    (b"field_from", NameOf::FieldFrom),
-    (b"field_width", NameOf::FieldWidth),
-    (b"field_bit", NameOf::FieldBit),
-    (b"bw_call", NameOf::BwCall),
-];
+// A name by the field that holds it.
+impl TryFrom<&[u8]> for NameOf {
+    type Error = Misread;
 
-// Functions by their fields.
-const FUNCTIONS: [(&[u8], Surrounded); 5] = [
-    (b"must_use", Surrounded::MustUse),
-    (b"static_construction_fn", Surrounded::StaticConstruction),
-    (b"lit_construction_fn", Surrounded::LitConstruction),
-    (b"construction_fn", Surrounded::Construction),
-    (b"const_wrapper", Surrounded::ConstWrapper),
-];
+    fn try_from(word: &[u8]) -> Result<NameOf, Misread> {
+        match word {
+            b"constant" => Ok(NameOf::Constant),
+            b"bind" => Ok(NameOf::Bind),
+            b"value" => Ok(NameOf::Value),
+            b"width" => Ok(NameOf::Width),
+            b"cw" => Ok(NameOf::Cw),
+            b"names.bits_ref" => Ok(NameOf::Reference),
+            b"awi" => Ok(NameOf::Awi),
+            b"awi_ref" => Ok(NameOf::AwiRef),
+            b"shl" => Ok(NameOf::Shl),
+            b"res" => Ok(NameOf::Res),
+            b"get_bw" => Ok(NameOf::GetBw),
+            b"mut_bits_ref" => Ok(NameOf::MutBitsRef),
+            b"fn_names.bits_ref" => Ok(NameOf::BitsRef),
+            b"usize_cast" => Ok(NameOf::UsizeCast),
+            b"usize_add" => Ok(NameOf::UsizeAdd),
+            b"usize_sub" => Ok(NameOf::UsizeSub),
+            b"max_fn" => Ok(NameOf::MaxFn),
+            b"cc_checks_fn" => Ok(NameOf::CcChecksFn),
+            b"copy_" => Ok(NameOf::CopyFn),
+            b"field" => Ok(NameOf::Field),
+            b"field_to" => Ok(NameOf::FieldTo),
+            b"field_from" => Ok(NameOf::FieldFrom),
+            b"field_width" => Ok(NameOf::FieldWidth),
+            b"field_bit" => Ok(NameOf::FieldBit),
+            b"bw_call" => Ok(NameOf::BwCall),
+            _ => Err(Misread::Unreadable),
+        }
+    }
+}
 
-const KINDS: [(&[u8], Kind); 6] = [
-    (b"bindings", Kind::Bindings),
-    (b"values", Kind::Values),
-    (b"widths", Kind::Widths),
-    (b"sums", Kind::Sums),
-    (b"parts", Kind::Parts),
-    (b"instructions", Kind::Instructions),
-];
+// A function by its field.
+impl TryFrom<&[u8]> for Surrounded {
+    type Error = Misread;
 
-fn parse_name(heap: Global, line: &mut Line) -> Result<Setting, Misread> {
-    let of = line.one_of(&NAMES)?;
-    let text = line.quoted(heap)?;
+    fn try_from(word: &[u8]) -> Result<Surrounded, Misread> {
+        match word {
+            b"must_use" => Ok(Surrounded::MustUse),
+            b"static_construction_fn" => Ok(Surrounded::StaticConstruction),
+            b"lit_construction_fn" => Ok(Surrounded::LitConstruction),
+            b"construction_fn" => Ok(Surrounded::Construction),
+            b"const_wrapper" => Ok(Surrounded::ConstWrapper),
+            _ => Err(Misread::Unreadable),
+        }
+    }
+}
+
+// A kind by what there are of it.
+impl TryFrom<&[u8]> for Kind {
+    type Error = Misread;
+
+    fn try_from(word: &[u8]) -> Result<Kind, Misread> {
+        match word {
+            b"bindings" => Ok(Kind::Bindings),
+            b"values" => Ok(Kind::Values),
+            b"widths" => Ok(Kind::Widths),
+            b"sums" => Ok(Kind::Sums),
+            b"parts" => Ok(Kind::Parts),
+            b"instructions" => Ok(Kind::Instructions),
+            _ => Err(Misread::Unreadable),
+        }
+    }
+}
+
+/// What stands behind `name`.
+pub fn read_name(line: &mut Line<'_>) -> Result<Setting, Misread> {
+    let of = NameOf::try_from(line.word()?)?;
+    let text = line.quoted()?;
     Ok(Setting::Name { of, text })
 }
 
-fn parse_around(heap: Global, line: &mut Line) -> Result<Setting, Misread> {
-    let of = line.one_of(&FUNCTIONS)?;
-    let before = line.quoted(heap)?;
-    let after = line.quoted(heap)?;
+/// What stands behind `around`.
+pub fn read_around(line: &mut Line<'_>) -> Result<Setting, Misread> {
+    let of = Surrounded::try_from(line.word()?)?;
+    let before = line.quoted()?;
+    let after = line.quoted()?;
     Ok(Setting::Around { of, before, after })
 }
 
-fn parse_entries(line: &mut Line) -> Result<Setting, Misread> {
-    let kind = line.one_of(&KINDS)?;
+/// What stands behind `entries`.
+pub fn read_entries(line: &mut Line<'_>) -> Result<Setting, Misread> {
+    let kind = Kind::try_from(line.word()?)?;
     let count = line.decimal()?;
     Ok(Setting::Entries { kind, count })
-}
-
-/// What a setting begins with.
-#[derive(Clone, Copy)]
-pub enum SetVerb {
-    Name,
-    Around,
-    Entries,
-}
-
-/// The setting that begins so.
-pub fn parse_setting(heap: Global, verb: SetVerb, line: &mut Line) -> Result<Setting, Misread> {
-    match verb {
-        SetVerb::Name => parse_name(heap, line),
-        SetVerb::Around => parse_around(heap, line),
-        SetVerb::Entries => parse_entries(line),
-    }
 }

@@ -1,7 +1,5 @@
 // What the workbench says of itself.
-use std::io;
-
-const HELP: &str = "\
+pub const HELP: &str = "\
 workbench: reads commands from standard input, one a line, and prints an answer to each.
 
   host words WIDTHS NUMBERS STORAGE   a host over words, as: host words 3,5 7 0xab,0x0
@@ -17,7 +15,3 @@ WIDTHS and NUMBERS are decimals joined by commas; - stands for an empty list or 
 Blank lines and lines that begin with # are passed over.
 A line that is none of these answers `unreadable`; one that needs a host, or room for a window,
 and has none, answers `out of turn`. Neither changes anything.";
-
-pub fn print(rt: &HostRuntime) -> io::Result<()> {
-    println!(rt; "{HELP}")
-}

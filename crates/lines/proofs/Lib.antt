@@ -1,0 +1,3 @@
+mod Worths
+mod Splitting
+mod Parts

@@ -1,3 +1,0 @@
-mod Worths
-mod Splitting
-mod Quoting

@@ -1,6 +1,0 @@
-use Rattle.std.proofs.Common.{◌≡◌, drop}
-use Rattle.script.specs.Words.{after_blanks}
-use Rattle.script.proofs.lines.blanks.Given as goal
-
-abbrev pub invariant-loop-i : goal.invariant-loop-i
-invariant-loop-i l = after_blanks l.bytes ≡ after_blanks (drop l.i l.bytes)

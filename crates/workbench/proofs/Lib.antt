@@ -1,2 +1,0 @@
-mod Worths
-mod Splitting
