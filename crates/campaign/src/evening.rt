@@ -6,7 +6,10 @@ use crate::fields::{CARD, Field, WIDTHS};
 use crate::tellings::told;
 use crate::{codes, fields, packing};
 use host::{Host, Laid, PackedBytes, Refusal, Window, Words};
-use std::alloc::Global;
+use std::alloc::{AllocError, Global};
+
+// A page that shows the bits of a code as the fields of a table.
+type Page<'a> = Window<Laid<PackedBytes<'a>>>;
 
 // The number by which a host says how many seats are played.
 const SEATS: usize = 0;
@@ -42,12 +45,16 @@ fn bits_of(code: &[u8]) -> usize
     8 * code.len().min(8192)
 }
 
-// Packs the fields of so many seats into the bytes of a code, all or none.
-fn pack_code<H: Host>(heap: Global, table: &H, code: &mut [u8], seats: u32) -> Result<(), Fault> {
+// The bytes of a code as a page for so many seats, on which the fields stand one after the other.
+fn page(heap: Global, code: &mut [u8], seats: u32) -> Result<Page<'_>, AllocError> {
     let width = bits_of(code);
-    let page = Laid::new(heap, PackedBytes::new(code), &[width], &[seats])?;
-    let mut shown = Window::new(page, 0, &WIDTHS);
-    packing::pack(table, &mut shown, fields::played(seats))?;
+    let whole = Laid::new(heap, PackedBytes::new(code), &[width], &[seats])?;
+    Ok(Window::new(whole, 0, &WIDTHS))
+}
+
+// Packs the fields that are played by the seats of a page, all or none.
+fn pack<H: Host>(table: &H, page: &mut Page<'_>) -> Result<(), Fault> {
+    packing::pack(table, page, fields::played(page.number(SEATS)?))?;
     Ok(())
 }
 
@@ -60,16 +67,12 @@ fn show_table<H: Host>(rt: &HostRuntime, table: &H) -> Result<(), Fault> {
     Ok(())
 }
 
-// Deals from a code with so many seats, and prints each field beside what it was on the first table, and how many
-// differ.
-fn deal<H: Host>(rt: &HostRuntime, first: &H, code: &mut [u8], seats: u32) -> Result<(), Fault> {
+// Deals from a page, and prints each field beside what it was on the first table, and how many differ.
+fn deal<H: Host>(rt: &HostRuntime, first: &H, page: &Page<'_>) -> Result<(), Fault> {
     let heap = rt.alloc();
-    let width = bits_of(code);
-    let page = Laid::new(heap, PackedBytes::new(code), &[width], &[seats])?;
-    let shown = Window::new(page, 0, &WIDTHS);
     let mut differ = 0u32;
-    for field in fields::played(shown.number(SEATS)?) {
-        let dealt = told(heap, &shown, *field)?;
+    for field in fields::played(page.number(SEATS)?) {
+        let dealt = told(heap, page, *field)?;
         let before = told(heap, first, *field)?;
         if dealt != before {
             differ = differ.saturating_add(1);
@@ -84,11 +87,11 @@ fn deal<H: Host>(rt: &HostRuntime, first: &H, code: &mut [u8], seats: u32) -> Re
 // Packs two seats into a page that has room for no more, and then tries three.
 fn try_small_page<H: Host>(rt: &HostRuntime, table: &H) -> Result<(), Fault> {
     let heap = rt.alloc();
-    let mut page = [0; 18];
-    pack_code(heap, table, &mut page, 2)?;
-    let before = codes::written(heap, &page)?;
+    let mut code = [0; 18];
+    pack(table, &mut page(heap, &mut code, 2)?)?;
+    let before = codes::written(heap, &code)?;
     println!(rt; "   two seats:   {before}")?;
-    match pack_code(heap, table, &mut page, 3) {
+    match pack(table, &mut page(heap, &mut code, 3)?) {
         Err(Fault::Stopped(stopped)) => {
             let number = stopped.refusal.number();
             println!(rt;
@@ -98,7 +101,7 @@ fn try_small_page<H: Host>(rt: &HostRuntime, table: &H) -> Result<(), Fault> {
         }
         other => other?,
     }
-    let after = codes::written(heap, &page)?;
+    let after = codes::written(heap, &code)?;
     println!(rt; "   the page:    {after}")?;
     if before == after {
         println!(rt; "   Nothing on it has changed.")?;
@@ -115,14 +118,14 @@ pub fn play(rt: &HostRuntime) -> Result<(), Fault> {
     show_table(rt, &table)?;
 
     let mut code = [0; 20];
-    pack_code(heap, &table, &mut code, 3)?;
+    pack(&table, &mut page(heap, &mut code, 3)?)?;
     let text = codes::written(heap, &code)?;
     println!(rt; "2. It is packed into a code of 20 bytes. Copy it into the booklet:")?;
     println!(rt; "   {text}")?;
 
     let mut copied = codes::typed(heap, &text)?;
     println!(rt; "3. Weeks later another phone is given this code, and deals for three seats:")?;
-    deal(rt, &table, &mut copied, 3)?;
+    deal(rt, &table, &page(heap, &mut copied, 3)?)?;
 
     println!(rt; "4. A small page has room for nine groups, too few for three seats:")?;
     try_small_page(rt, &table)

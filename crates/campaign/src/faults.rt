@@ -4,6 +4,7 @@ use host::Refusal;
 use std::alloc::{AllocError, AllocFailed};
 use std::io;
 
+// The layouts' demonstration has an enum like this one: a library for the two would be longer than both.
 #[derive(Debug, Drop)]
 pub enum Fault {
     Output(io::Error),

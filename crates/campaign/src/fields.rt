@@ -31,19 +31,23 @@ pub enum Field {
     Cleo,
 }
 
+// All fields, in their order.
+const ALL: [Field; 6] = [
+    Field::Chapter,
+    Field::Flags,
+    Field::Deck,
+    Field::Ada,
+    Field::Ben,
+    Field::Cleo,
+];
+
 impl Field {
+    // Not a `From`: the name says which number it is.
     /// Its name number, on the table and in a code.
     pub fn name(self) -> usize
         ensures name { result ≡ name_of self }
     {
-        match self {
-            Field::Chapter => 0,
-            Field::Flags => 1,
-            Field::Deck => 2,
-            Field::Ada => 3,
-            Field::Ben => 4,
-            Field::Cleo => 5,
-        }
+        self as usize
     }
 }
 
@@ -64,21 +68,6 @@ impl fmt::Display for Field {
 pub fn played(seats: u32) -> &'static [Field] {
     match seats {
         0 => &[],
-        1 => &[Field::Chapter, Field::Flags, Field::Deck, Field::Ada],
-        2 => &[
-            Field::Chapter,
-            Field::Flags,
-            Field::Deck,
-            Field::Ada,
-            Field::Ben,
-        ],
-        _ => &[
-            Field::Chapter,
-            Field::Flags,
-            Field::Deck,
-            Field::Ada,
-            Field::Ben,
-            Field::Cleo,
-        ],
+        _ => &ALL[..3 + seats.min(3) as usize],
     }
 }

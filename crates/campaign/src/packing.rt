@@ -34,12 +34,10 @@ pub fn copy_field<S: Host, T: Host>(from: &S, to: &mut T, name: usize) -> Result
     ensures widths { Same (T.Host.widths to.old) (T.Host.widths to.new) }
 {
     let width = shared_width(from, to, name)?;
-    let mut done = 0;
-    while done < width {
+    for done in (0..width).step_by(64) {
         let count = (width - done).min(64);
         let value = from.read(name, done, count)?;
         to.write(name, done, count, value)?;
-        done += count;
     }
     Ok(())
 }
@@ -49,12 +47,10 @@ fn ask<S: Host, T: Host>(from: &S, to: &T, fields: &[Field]) -> Result<(), Stopp
     ensures stopped { Judged (S.Host.widths from.now) (T.Host.widths to.now) fields.now result }
 {
     for field in fields {
-        if let Err(refusal) = shared_width(from, to, field.name()) {
-            return Err(Stopped {
-                field: *field,
-                refusal,
-            });
-        }
+        shared_width(from, to, field.name()).map_err(|refusal| Stopped {
+            field: *field,
+            refusal,
+        })?;
     }
     Ok(())
 }
@@ -66,12 +62,10 @@ pub fn pack<S: Host, T: Host>(from: &S, to: &mut T, fields: &[Field]) -> Result<
 {
     ask(from, to, fields)?;
     for field in fields {
-        if let Err(refusal) = copy_field(from, to, field.name()) {
-            return Err(Stopped {
-                field: *field,
-                refusal,
-            });
-        }
+        copy_field(from, to, field.name()).map_err(|refusal| Stopped {
+            field: *field,
+            refusal,
+        })?;
     }
     Ok(())
 }

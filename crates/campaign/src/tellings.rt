@@ -3,6 +3,7 @@ use crate::faults::*;
 use crate::fields::{CARD, FLAGS, Field};
 use host::Host;
 use std::alloc::Global;
+use std::fmt::Write;
 
 // The numbers of the cards of a variable, first to last.
 fn cards<H: Host>(heap: Global, host: &H, name: usize) -> Result<String, Fault> {
@@ -10,10 +11,10 @@ fn cards<H: Host>(heap: Global, host: &H, name: usize) -> Result<String, Fault> 
     let mut text = String::new(heap);
     for i in 0..width / CARD {
         let card = host.read(name, i * CARD, CARD)?;
-        if i > 0 {
+        if !text.is_empty() {
             text.push(' ')?;
         }
-        text.push_str(&format!(in heap; "{card}")?)?;
+        write!(text, "{card}")?;
     }
     Ok(text)
 }
@@ -23,7 +24,7 @@ fn flags<H: Host>(heap: Global, host: &H, name: usize) -> Result<String, Fault> 
     let mut text = String::new(heap);
     for (i, flag) in FLAGS.iter().enumerate() {
         if host.read(name, i, 1)? == 1 {
-            if text.len() > 0 {
+            if !text.is_empty() {
                 text.push_str(", ")?;
             }
             text.push_str(flag)?;
