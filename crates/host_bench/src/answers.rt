@@ -60,14 +60,12 @@ impl fmt::Display for Stored {
 }
 
 fn show_words<W: fmt::Write>(words: &[u64], f: &mut fmt::Formatter<W>) -> fmt::Result {
-    if words.is_empty() {
+    let [first, rest @ ..] = words else {
         return f.write_str("-");
-    }
-    for (i, word) in words.iter().enumerate() {
-        if i > 0 {
-            f.write_str(",")?;
-        }
-        write!(f, "{word:#x}")?;
+    };
+    write!(f, "{first:#x}")?;
+    for word in rest {
+        write!(f, ",{word:#x}")?;
     }
     Ok(())
 }

@@ -1,4 +1,9 @@
 // The bench, and what it is asked.
+ghost use Rattle.host_bench.specs.declared.answers.Answer.TheVariants.{OutOfTurn};
+ghost use Rattle.host_bench.specs.declared.requests.Question.{Question as AQuestion};
+ghost use Rattle.host_bench.specs.declared.requests.Request.TheVariants.{Ask};
+ghost use Rattle.std.specs.Prelude.{◌≡◌, None, Ok};
+
 use crate::answers::Answer;
 use crate::requests::Request;
 use crate::standing::Standing;
@@ -12,12 +17,16 @@ pub struct Bench {
 }
 
 impl Bench {
-    pub fn new(heap: Global) -> Bench {
+    pub fn new(heap: Global) -> Bench
+        ensures empty { result.stands ≡ None }
+    {
         Bench { heap, stands: None }
     }
 
     /// Serves a request.
-    pub fn serve(&mut self, request: Request) -> Result<Answer<'_>, AllocError> {
+    pub fn serve(&mut self, request: Request) -> Result<Answer<'_>, AllocError>
+        ensures out_of_turn { (q : AQuestion) → self.old.stands ≡ None → request ≡ Ask q → result ≡ Ok OutOfTurn }
+    {
         match request {
             Request::Host(recipe) => {
                 self.stands = Some(Standing::new(self.heap, recipe));

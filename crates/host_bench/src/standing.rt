@@ -6,7 +6,7 @@ ghost use Rattle.host_bench.specs.Asked.{Left, Told, call_refusal};
 
 use crate::answers::{Answer, Reply};
 use crate::requests::{Call, Lists, Pane, Question, Recipe, Stored};
-use host::{Host, Laid, PackedBytes, Refusal, Window, Words};
+use host::{Host, Laid, PackedBytes, Refusal, Storage, Window, Words};
 use std::alloc::{AllocError, AllocFailed, Global};
 
 // At most so many windows lie on top of each other.
@@ -60,6 +60,18 @@ fn ask_through<H: Host + Drop>(mut host: H, panes: &[Pane], call: Call) -> Resul
     }
 }
 
+// Makes one call of a host that is laid over a storage.
+fn ask_over<S: Storage + Drop>(
+    heap: Global,
+    store: S,
+    lists: &Lists,
+    panes: &[Pane],
+    call: Call,
+) -> Result<Result<Reply, Refusal>, AllocError> {
+    let host = Laid::new(heap, store, &lists.widths, &lists.numbers)?;
+    Ok(ask_through(host, panes, call))
+}
+
 impl Standing {
     pub fn new(heap: Global, recipe: Recipe) -> Standing {
         Standing {
@@ -81,15 +93,12 @@ impl Standing {
     // Makes one call of the host, laid over its storage.
     fn call(&mut self, call: Call) -> Result<Result<Reply, Refusal>, AllocError> {
         let Recipe { lists, stored } = &mut self.recipe;
-        let Lists { widths, numbers } = lists;
         match stored {
             Stored::Words(words) => {
-                let host = Laid::new(self.heap, Words::new(words), widths, numbers)?;
-                Ok(ask_through(host, &self.panes, call))
+                ask_over(self.heap, Words::new(words), lists, &self.panes, call)
             }
             Stored::Bytes(bytes) => {
-                let host = Laid::new(self.heap, PackedBytes::new(bytes), widths, numbers)?;
-                Ok(ask_through(host, &self.panes, call))
+                ask_over(self.heap, PackedBytes::new(bytes), lists, &self.panes, call)
             }
         }
     }

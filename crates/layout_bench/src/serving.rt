@@ -8,10 +8,14 @@ use std::alloc::Global;
 use std::io;
 use std::io::{BufReader, Split, Stdin};
 
-/// The input, line by line.
-pub type Input = Split<BufReader<Stdin>>;
+/// What lasts whatever layout stands: the input, line by line, and what answers lines that ask of none.
+#[derive(Drop)]
+pub struct Desk {
+    pub input: Split<BufReader<Stdin>>,
+    pub table: Table,
+}
 
-/// What lasts whatever layout stands: the bench of hosts, and the settings.
+/// The bench of hosts, and the settings.
 #[derive(Drop)]
 pub struct Table {
     heap: Global,
@@ -59,6 +63,7 @@ impl Table {
         Ok(None)
     }
 
+    // Four cases told apart, since a `?` would hide a line that cannot be read.
     /// Serves a line, and leaves what it asks of a layout.
     pub fn serve(&mut self, rt: &HostRuntime, line: &[u8]) -> io::Result<Option<Asked>> {
         match lines::parse(self.heap, line) {

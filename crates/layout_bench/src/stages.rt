@@ -1,6 +1,6 @@
 // The stages of a layout, one loop for each.
 use crate::answers::Answer;
-use crate::serving::{Asked, Input, Table, say, say_out_of_turn};
+use crate::serving::{Asked, Desk, Table, say, say_out_of_turn};
 use crate::settings::Settings;
 use layout::Room;
 use lowering::{Lending, Open, Sealed};
@@ -28,11 +28,10 @@ fn would_start(heap: Global, settings: &Settings) -> Result<Result<(), Refusal>,
     Ok(lowering::check_start(&lent.memory(), &handed))
 }
 
-// Serves lines while there is no layout, up to a `start`. A loop holds the input while the table serves a line, so that the two
-// are lent apart.
-fn serve_none(rt: &HostRuntime, input: &mut Input, table: &mut Table) -> io::Result<Option<Start>> {
-    for line in input {
-        match table.serve(rt, &line?)? {
+// Serves lines while there is no layout, up to a `start`.
+fn serve_none(rt: &HostRuntime, desk: &mut Desk) -> io::Result<Option<Start>> {
+    for line in &mut desk.input {
+        match desk.table.serve(rt, &line?)? {
             Some(Asked::Start) => return Ok(Some(Start)),
             Some(Asked::Build(_)) => say_out_of_turn(rt)?,
             None => {}
@@ -44,13 +43,12 @@ fn serve_none(rt: &HostRuntime, input: &mut Input, table: &mut Table) -> io::Res
 // Serves lines while a sealed layout stands, up to a `start` that is accepted.
 fn serve_sealed(
     rt: &HostRuntime,
-    input: &mut Input,
-    table: &mut Table,
+    desk: &mut Desk,
     _sealed: &Sealed<'_, '_, '_>,
 ) -> io::Result<Option<Start>> {
-    for line in input {
-        match table.serve(rt, &line?)? {
-            Some(Asked::Start) => match would_start(rt.alloc(), &table.settings)? {
+    for line in &mut desk.input {
+        match desk.table.serve(rt, &line?)? {
+            Some(Asked::Start) => match would_start(rt.alloc(), &desk.table.settings)? {
                 Ok(()) => return Ok(Some(Start)),
                 refused => say(rt, Answer::Layout(refused))?,
             },
@@ -64,14 +62,13 @@ fn serve_sealed(
 // Serves lines while an open layout stands, up to a `seal` that is read or a `start` that is accepted.
 fn serve_open(
     rt: &HostRuntime,
-    input: &mut Input,
-    table: &mut Table,
+    desk: &mut Desk,
     open: &mut Open<'_, '_>,
 ) -> io::Result<Option<Closed>> {
-    for line in input {
-        let result = match table.serve(rt, &line?)? {
+    for line in &mut desk.input {
+        let result = match desk.table.serve(rt, &line?)? {
             None => continue,
-            Some(Asked::Start) => match would_start(rt.alloc(), &table.settings)? {
+            Some(Asked::Start) => match would_start(rt.alloc(), &desk.table.settings)? {
                 Ok(()) => return Ok(Some(Closed::Start(Start))),
                 refused => refused,
             },
@@ -95,13 +92,12 @@ fn serve_open(
 // Serves an open layout, and then the sealed one that it becomes.
 fn serve_layout(
     rt: &HostRuntime,
-    input: &mut Input,
-    table: &mut Table,
+    desk: &mut Desk,
     mut open: Open<'_, '_>,
 ) -> io::Result<Option<Start>> {
     // The language wants a count where a loop ends with its input: each turn reads a line.
     for _ in 0..u64::MAX {
-        match serve_open(rt, input, table, &mut open)? {
+        match serve_open(rt, desk, &mut open)? {
             None => return Ok(None),
             Some(Closed::Start(start)) => return Ok(Some(start)),
             Some(Closed::Seal(sealing)) => {
@@ -110,7 +106,7 @@ fn serve_layout(
                     Ok(()) => {
                         let sealed = open.seal(claims);
                         say(rt, Answer::Layout(Ok(())))?;
-                        return serve_sealed(rt, input, table, &sealed);
+                        return serve_sealed(rt, desk, &sealed);
                     }
                     refused => say(rt, Answer::Layout(refused))?,
                 }
@@ -121,13 +117,9 @@ fn serve_layout(
 }
 
 // Begins a layout, if the start is accepted, and serves it. The texts are those of now, whatever is set later.
-fn serve_start(
-    rt: &HostRuntime,
-    input: &mut Input,
-    table: &mut Table,
-) -> io::Result<Option<Start>> {
-    let texts = table.settings.texts;
-    let mut lent = Lending::new(rt.alloc(), &table.settings.counts)?;
+fn serve_start(rt: &HostRuntime, desk: &mut Desk) -> io::Result<Option<Start>> {
+    let texts = desk.table.settings.texts;
+    let mut lent = Lending::new(rt.alloc(), &desk.table.settings.counts)?;
     let room = Room::new(rt.alloc())?;
     let memory = lent.memory();
     let handed = texts.handed();
@@ -135,26 +127,28 @@ fn serve_start(
         Ok(()) => {
             let open = Open::start(room, memory, handed);
             say(rt, Answer::Layout(Ok(())))?;
-            serve_layout(rt, input, table, open)
+            serve_layout(rt, desk, open)
         }
         refused => {
             say(rt, Answer::Layout(refused))?;
-            serve_none(rt, input, table)
+            serve_none(rt, desk)
         }
     }
 }
 
 pub fn run(rt: &HostRuntime) -> io::Result<()> {
     let heap = rt.alloc();
-    let mut input = BufReader::new(heap, rt.stdin())?.split(heap, b'\n');
-    let mut table = Table::new(heap);
-    let mut start = serve_none(rt, &mut input, &mut table)?;
+    let mut desk = Desk {
+        input: BufReader::new(heap, rt.stdin())?.split(heap, b'\n'),
+        table: Table::new(heap),
+    };
+    let mut start = serve_none(rt, &mut desk)?;
     // The language wants a count where a loop ends with its input: each turn reads a line, or is the last.
     for _ in 0..u64::MAX {
         let Some(Start) = start else {
             break;
         };
-        start = serve_start(rt, &mut input, &mut table)?;
+        start = serve_start(rt, &mut desk)?;
     }
     Ok(())
 }

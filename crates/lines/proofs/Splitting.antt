@@ -1,5 +1,5 @@
 -- Where words of a line begin and end.
-use Rattle.std.proofs.Common.{◌≡◌, ℕ, ◌+◌, ◌<◌, ◌≤◌, Bool, true, false, not, cond, ltb, List, [], ◌∷◌, length, take, drop, Some, None, Option, refl, ap, ◌∙◌, ⊎_elim, arith}
+use Rattle.std.proofs.Common.{◌≡◌, ℕ, ◌+◌, ◌<◌, ◌≤◌, Bool, true, false, not, cond, ltb, List, [], ◌∷◌, length, take, drop, Some, None, Option, refl, sym, ap, ◌∙◌, ⊎_elim, arith}
 use Rattle.std.specs.Option.{unwrap_or}
 use Rattle.std.specs.List.{position_or_len}
 use Rattle.std.proofs.Math.Numerals.{one-add}
@@ -65,3 +65,13 @@ past_less (c ∷ cs) word e =
 
 pub word_shortens : (line word : List ℕ) → Some word ≡ first_word line → length (after_word line) < length line
 word_shortens line word e = omega (arith, past_less (after_blanks line) word e, blanks_le line)
+
+-- where no word is left, none comes later
+pub none_left : (line : List ℕ) → first_word line ≡ None → first_word (after_word line) ≡ None
+none_left [] e = refl
+none_left (c ∷ cs) e =
+    let P : Bool → Type 0 = λ b. blank c ≡ b → unless_empty (front (cond b (after_blanks cs) (c ∷ cs))) ≡ None → first_word (past (cond b (after_blanks cs) (c ∷ cs))) ≡ None in
+    elim (blank c) as P [
+      | true ↦ λ q z. none_left cs z
+      | false ↦ λ q z. let y : unless_empty (cond false [] (c ∷ front cs)) ≡ None = ap (λ (b : Bool). unless_empty (cond b [] (c ∷ front cs))) (sym q) ∙ z in absurd (cc)
+    ] refl e

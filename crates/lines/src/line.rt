@@ -1,7 +1,7 @@
 // A line as words, which blanks part.
-ghost use Rattle.std.specs.Prelude.{◌≡◌, ◌≤◌, length, not};
+ghost use Rattle.std.specs.Prelude.{◌≡◌, ◌≤◌, length, not, is_ok, IfOk, None};
 ghost use Rattle.std.specs.List.{position_or_len};
-ghost use Rattle.std.specs.Option.{option_map};
+ghost use Rattle.std.specs.Option.{option_map, is_none};
 ghost use Rattle.lines.specs.Words.{after_blanks, after_word, blank, first_word, front, past};
 
 use crate::faults::Misread;
@@ -52,10 +52,11 @@ fn cut(bytes: &[u8]) -> (&[u8], &[u8])
 /// What is left of a line, and the memory for what it spells.
 #[derive(Drop)]
 pub struct Line<'a> {
-    pub rest: &'a [u8],
+    rest: &'a [u8],
     heap: Global,
 }
 
+// Each call says itself what it takes of the line, in a clause that a caller can cite.
 impl<'a> Line<'a> {
     pub fn new(heap: Global, rest: &'a [u8]) -> Line<'a>
         ensures rest { result.rest.now ≡ rest.now }
@@ -71,36 +72,48 @@ impl<'a> Line<'a> {
         let words = unindented(self.rest);
         let (word, rest) = cut(words);
         self.rest = rest;
-        if word.is_empty() { None } else { Some(word) }
+        (!word.is_empty()).then_some(word)
     }
 
     /// Takes the next word, which has to be there.
-    pub fn word(&mut self) -> Result<&'a [u8], Misread> {
+    pub fn word(&mut self) -> Result<&'a [u8], Misread>
+        ensures rest { self.new.rest.now ≡ after_word self.old.rest.now }
+    {
         self.next_word().ok_or(Misread::Unreadable)
     }
 
     /// Takes the next word, a decimal.
-    pub fn decimal(&mut self) -> Result<u64, Misread> {
+    pub fn decimal(&mut self) -> Result<u64, Misread>
+        ensures rest { self.new.rest.now ≡ after_word self.old.rest.now }
+    {
         numbers::decimal(self.word()?).ok_or(Misread::Unreadable)
     }
 
     /// Takes the next word, a decimal that counts something or names it.
-    pub fn number(&mut self) -> Result<usize, Misread> {
+    pub fn number(&mut self) -> Result<usize, Misread>
+        ensures rest { self.new.rest.now ≡ after_word self.old.rest.now }
+    {
         Ok(self.decimal()? as usize)
     }
 
     /// Takes the next word, hexadecimal.
-    pub fn hex_word(&mut self) -> Result<u64, Misread> {
+    pub fn hex_word(&mut self) -> Result<u64, Misread>
+        ensures rest { self.new.rest.now ≡ after_word self.old.rest.now }
+    {
         numbers::hex_word(self.word()?).ok_or(Misread::Unreadable)
     }
 
     /// Takes the next word, a list of items.
-    pub fn items<T: Item + Drop>(&mut self) -> Result<Vec<T>, Misread> {
+    pub fn items<T: Item + Drop>(&mut self) -> Result<Vec<T>, Misread>
+        ensures rest { self.new.rest.now ≡ after_word self.old.rest.now }
+    {
         lists::items(self.heap, self.word()?)
     }
 
     /// Takes the next word, pairs of hexadecimal digits.
-    pub fn bytes(&mut self) -> Result<Vec<u8>, Misread> {
+    pub fn bytes(&mut self) -> Result<Vec<u8>, Misread>
+        ensures rest { self.new.rest.now ≡ after_word self.old.rest.now }
+    {
         lists::bytes(self.heap, self.word()?)
     }
 
@@ -123,6 +136,7 @@ impl<'a> Line<'a> {
         read: F,
     ) -> Result<Vec<T>, Misread>
         requires { F.IsAlwaysCallable read }
+        ensures over { IfOk result (λ _. first_word self.new.rest.now ≡ None) }
     {
         let mut all = Vec::new(self.heap);
         while let Some(word) = self.next_word() {
@@ -132,7 +146,9 @@ impl<'a> Line<'a> {
     }
 
     /// There has to be no word left.
-    pub fn end(&mut self) -> Result<(), Misread> {
+    pub fn end(&mut self) -> Result<(), Misread>
+        ensures over { is_ok result ≡ is_none (first_word self.old.rest.now) }
+    {
         match self.next_word() {
             Some(_) => Err(Misread::Unreadable),
             None => Ok(()),

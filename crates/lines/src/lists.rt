@@ -1,5 +1,5 @@
 // Lists in one word: items joined by commas, or pairs of digits, with `-` for none.
-ghost use Rattle.std.specs.Prelude.{◌≡◌, ◌+◌, ◌*◌, ◌≤◌, length, IfOk, vec_len};
+ghost use Rattle.std.specs.Prelude.{◌+◌, ◌*◌, ◌≤◌, length, IfOk, vec_len};
 ghost use Rattle.lines.specs.Words.{commas};
 
 use crate::faults::*;

@@ -1,5 +1,5 @@
 // Numbers as a line has them: decimals, signed decimals, and hexadecimal digits and words.
-ghost use Rattle.std.specs.Prelude.{◌≡◌, ◌^◌, ◌<◌, ◌≤◌, length, Some};
+ghost use Rattle.std.specs.Prelude.{◌≡◌, ◌^◌, ◌≤◌};
 ghost use Rattle.lines.specs.Numbers.{below, digit_worth, grow, hex_word, numeral, signed_numeral};
 
 /// What a digit is worth, with small and capital letters for those above nine.

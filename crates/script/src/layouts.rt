@@ -4,7 +4,7 @@ use layout::{Claims, ConcatClaim};
 use lines::{Line, Misread};
 
 /// What is claimed of a layout when it is sealed.
-// `Claims` with a list of its own, since that of `Claims` is lent.
+// `Claims` with a list of its own, since that of `Claims` is lent; flags and numbers as there, since wrong ones are refused.
 #[derive(Drop)]
 pub struct Sealing {
     pub returning: bool,
@@ -83,11 +83,16 @@ fn bound(word: &[u8]) -> Option<Usb<usize>> {
     }
 }
 
-// A bound, or `-` for none.
-fn read_bound(line: &mut Line<'_>) -> Result<Option<Usb<usize>>, Misread> {
-    match line.word()? {
+// What a word spells, or `-` for none.
+fn optional<T: Drop, F: Fn(&[u8]) -> Option<T> + Drop>(
+    word: &[u8],
+    read: F,
+) -> Result<Option<T>, Misread>
+    requires { F.IsAlwaysCallable read }
+{
+    match word {
         b"-" => Ok(None),
-        word => Ok(Some(bound(word).ok_or(Misread::Unreadable)?)),
+        _ => Ok(Some(read(word).ok_or(Misread::Unreadable)?)),
     }
 }
 
@@ -109,23 +114,20 @@ fn read_type(line: &mut Line<'_>) -> Result<ComponentType<usize>, Misread> {
 /// What stands behind `component`.
 pub fn read_component(line: &mut Line<'_>) -> Result<Build, Misread> {
     let c_type = read_type(line)?;
-    let start = read_bound(line)?;
-    let end = read_bound(line)?;
+    let start = optional(line.word()?, bound)?;
+    let end = optional(line.word()?, bound)?;
     let range = Usbr { start, end };
     Ok(Build::Component(Component { c_type, range }))
 }
 
-// A decimal, or `-` for none.
-fn optional(word: &[u8]) -> Result<Option<u64>, Misread> {
-    match word {
-        b"-" => Ok(None),
-        _ => Ok(Some(lines::decimal(word).ok_or(Misread::Unreadable)?)),
-    }
+// The prover does not cover a function of another crate that is handed on.
+fn decimal(word: &[u8]) -> Option<u64> {
+    lines::decimal(word)
 }
 
 // A list, or `-` for none.
 fn read_initial(line: &mut Line<'_>) -> Result<Option<usize>, Misread> {
-    let initial = optional(line.word()?)?;
+    let initial = optional(line.word()?, decimal)?;
     Ok(initial.map(|list| list as usize))
 }
 
@@ -145,7 +147,7 @@ fn read_claim(word: &[u8]) -> Result<ConcatClaim, Misread> {
         [b'n', width @ ..] => (false, width),
         _ => return Err(Misread::Unreadable),
     };
-    let static_width = optional(width)?;
+    let static_width = optional(width, decimal)?;
     Ok(ConcatClaim {
         deterministic,
         static_width,
@@ -157,7 +159,7 @@ pub fn read_seal(line: &mut Line<'_>) -> Result<Build, Misread> {
     let returning = read_flag(line)?;
     let initial = read_initial(line)?;
     let nonzero = read_flag(line)?;
-    let common = optional(line.word()?)?;
+    let common = optional(line.word()?, decimal)?;
     let alignment = line.number()?;
     let concatenations = line.all(read_claim)?;
     Ok(Build::Seal(Sealing {

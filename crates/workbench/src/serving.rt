@@ -5,7 +5,7 @@ use std::alloc::{AllocError, Global};
 use std::io;
 use std::io::{BufRead, BufReader};
 
-// What a line is answered, if it is a command.
+// What a line is answered, if it is a command. The four cases are told apart, since a `?` would hide a line that cannot be read.
 fn serve<'a>(
     heap: Global,
     bench: &'a mut Bench,
