@@ -30,7 +30,7 @@ fn bound_text(bound: &Option<Usb<Flat>>) -> Option<&Flat>
     bound.as_ref().and_then(|bound| bound.s.as_ref())
 }
 
-// The text, if it is unknown.
+// The text, if it is unknown. Here and below no `filter`: with the second one the proof did not close.
 fn new_text<'a>(names: &NameTable, text: Option<&'a Flat>) -> Option<&'a Flat>
     ensures text { option_map (λ t. flat_text t.now) result ≡ kept_if (new_text (names_of names.now) (option_map (λ t. flat_text t.now) text.entry)) (option_map (λ t. flat_text t.now) text.entry) }
 {
@@ -121,7 +121,8 @@ pub(crate) fn has_room(names: &NameTable, component: &Component<Flat>) -> bool
     )
 }
 
-// Gives a variable's text its number.
+// Gives a variable's text its number. Here and for a component no `try_map`: its two calls would both have to lend the names to
+// change them.
 fn name_type(names: &mut NameTable, c_type: &ComponentType<Flat>) -> ComponentType<PName>
     requires room { names_fit (with_text (names_of names.old) (type_text (map_type flat_text c_type.now))) ≡ true }
     ensures names { names_of names.new ≡ with_text (names_of names.old) (type_text (map_type flat_text c_type.now)) }

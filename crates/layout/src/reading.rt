@@ -26,7 +26,8 @@ fn all_digits(text: &[u8]) -> bool
     text.iter().all(|byte| byte.is_ascii_digit())
 }
 
-// Whether a text begins with a function's name and an opening parenthesis.
+// Whether a text begins with a function's name and an opening parenthesis. With `is_some_and` in the place of the match the proof
+// did not close.
 fn calls_of(name: &[u8], text: &[u8]) -> bool
     ensures answer { result ≡ calls name.now text.now }
 {
@@ -51,8 +52,9 @@ fn read_list(texts: &Texts, list: usize) -> Result<Flat, Refusal>
     ensures refused { refusal result ≡ (if reads (lists_of texts.now) list then None else Some WrongText) }
     ensures text { IfOk result (λ f. flat_text f ≡ flattened (lists_of texts.now) list) }
 {
+    let list = u8::try_from(list).or(Err(Refusal::WrongText))?;
     let mut text = Flat::new();
-    if list > 255 || texts.flatten(list as u8, &mut text).is_err() || text.as_slice().is_empty() {
+    if texts.flatten(list, &mut text).is_err() || text.as_slice().is_empty() {
         return Err(Refusal::WrongText);
     }
     Ok(text)
@@ -89,16 +91,16 @@ pub(crate) fn read_component(
 fn same_list_text(texts: &Texts, a: usize, b: usize) -> bool
     ensures answer { result ≡ same_lists (lists_of texts.now) a b }
 {
-    if a > 255 || b > 255 {
+    let (Ok(a), Ok(b)) = (u8::try_from(a), u8::try_from(b)) else {
         return false;
-    }
+    };
     if a == b {
         return true;
     }
     let mut first = Flat::new();
     let mut second = Flat::new();
-    texts.flatten(a as u8, &mut first).is_ok()
-        && texts.flatten(b as u8, &mut second).is_ok()
+    texts.flatten(a, &mut first).is_ok()
+        && texts.flatten(b, &mut second).is_ok()
         && are_same(first.as_slice(), second.as_slice())
 }
 

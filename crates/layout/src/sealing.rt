@@ -94,13 +94,13 @@ impl Layout {
     }
 
     // Whether the initial list is one that the layout may have.
-    fn initial_fits(&self, returning: bool, initial: Option<usize>) -> bool
+    fn initial_fits(&self, claims: &Claims<'_>) -> bool
         requires begun { 0 < length self.now.starts }
-        ensures answer { result ≡ initial_fits self.now returning initial }
+        ensures answer { result ≡ initial_fits self.now claims.now.returning claims.now.initial }
     {
-        match initial {
-            Some(list) => returning && list <= 255,
-            None => !(returning && components::has_filler(self.comps_of(0))),
+        match claims.initial {
+            Some(list) => claims.returning && list <= 255,
+            None => !(claims.returning && components::has_filler(self.comps_of(0))),
         }
     }
 
@@ -114,7 +114,7 @@ impl Layout {
         if !self.claims_hold(claims) {
             return Err(Refusal::UntrueClaim);
         }
-        if !self.initial_fits(claims.returning, claims.initial) {
+        if !self.initial_fits(claims) {
             return Err(Refusal::WrongInitial);
         }
         Ok(())

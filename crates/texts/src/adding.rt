@@ -1,5 +1,5 @@
 // Adding items to lists.
-ghost use Rattle.std.specs.Prelude.{◌≡◌, ℕ, ◌+◌, ◌<◌, ◌≤◌, true, false, [], length, is_ok, IfOk, vec_len, slice_index_or, if◌then◌else◌};
+ghost use Rattle.std.specs.Prelude.{◌≡◌, ℕ, ◌+◌, ◌<◌, ◌≤◌, true, [], length, is_ok, IfOk, vec_len, if◌then◌else◌};
 ghost use Rattle.texts.specs.Refusals.{refusal};
 ghost use Rattle.texts.specs.Lists.{Added, Grouped, Written, free_child, group_refusal, no_room, text_refusal};
 ghost use Rattle.texts.specs.Texts.{lists_of};
@@ -82,6 +82,7 @@ impl Texts {
         Ok(())
     }
 
+    // Lists and delimiters come as plain numbers, since wrong ones are refused.
     /// Adds another list to a list, between delimiters. It moves the items of the lists above by one.
     pub fn group(&mut self, list: usize, delimiter: usize, child: usize) -> Result<(), Refusal>
         ensures refused { refusal result ≡ group_refusal (lists_of self.old) list delimiter child }

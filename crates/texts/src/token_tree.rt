@@ -42,37 +42,35 @@ impl TryFrom<usize> for Delimiter {
 }
 
 impl Delimiter {
+    // What stands before the list, and what stands after it.
+    fn sides(self) -> (&'static [u8], &'static [u8])
+        ensures before { result.0.now ≡ lhs self }
+        ensures after { result.1.now ≡ rhs self }
+    {
+        match self {
+            Delimiter::None => (b"", b""),
+            Delimiter::Space => (b" ", b" "),
+            Delimiter::Parenthesis => (b"(", b")"),
+            Delimiter::Bracket => (b"[", b"]"),
+            Delimiter::Brace => (b"{", b"}"),
+            Delimiter::RangeBracket => (b"[", b"]"),
+            Delimiter::Component => (b"", b","),
+            Delimiter::Concatenation => (b"", b";"),
+        }
+    }
+
     /// What stands before the list.
     pub fn lhs_chars(self) -> &'static [u8]
         ensures answer { result.now ≡ lhs self }
     {
-        match self {
-            Delimiter::None => b"",
-            Delimiter::Space => b" ",
-            Delimiter::Parenthesis => b"(",
-            Delimiter::Bracket => b"[",
-            Delimiter::Brace => b"{",
-            Delimiter::RangeBracket => b"[",
-            Delimiter::Component => b"",
-            Delimiter::Concatenation => b"",
-        }
+        self.sides().0
     }
 
     /// What stands after it.
-    // A table beside that of `lhs_chars`: most lines differ, and each caller wants one of the two.
     pub fn rhs_chars(self) -> &'static [u8]
         ensures answer { result.now ≡ rhs self }
     {
-        match self {
-            Delimiter::None => b"",
-            Delimiter::Space => b" ",
-            Delimiter::Parenthesis => b")",
-            Delimiter::Bracket => b"]",
-            Delimiter::Brace => b"}",
-            Delimiter::RangeBracket => b"]",
-            Delimiter::Component => b",",
-            Delimiter::Concatenation => b";",
-        }
+        self.sides().1
     }
 }
 
