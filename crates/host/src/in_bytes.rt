@@ -6,7 +6,8 @@ ghost use Rattle.host.specs.Rows.{byte_bit, byte_cell, byte_inner, bytes_apart, 
 
 use crate::stores::{Exact, Storage};
 
-// The eight bytes from `from` on, with zeros past the last one.
+// The eight bytes from `from` on, with zeros past the last one. Here and below `from` is a plain index: a type for one that lies inside would
+// be filled and taken apart at each call.
 fn eight(bytes: &[u8], from: usize) -> [u8; 8]
     requires from { from < length bytes.now }
     ensures bytes { (k : ℕ) → k < 8 → slice_index result k ≡ slice_index bytes.now (from + k) }

@@ -19,6 +19,7 @@ impl<'a> Words<'a> {
 }
 
 /// A read or a write touches at most two words.
+// Beside that of bytes: a second word has 64 bits to take from or to put into, and a ninth byte eight.
 impl Storage for Words<'_> {
     ghost room = { λ s. words_room s.words.now };
 

@@ -1,6 +1,6 @@
 // Places of variables in a row of bits, and parts of them.
 ghost use Rattle.std.specs.Prelude.{◌≡◌, ℕ, ◌+◌, ◌^◌, ◌<◌, ◌≤◌, true, length, IfOk, MatchOption};
-ghost use Rattle.host.specs.Parts.{found, inside, part_refusal, refused_part, size};
+ghost use Rattle.host.specs.Parts.{found, inside, part_refusal, refused_part};
 ghost use Rattle.host.specs.Spans.{laid, lies, placed, span_at, start_of, width_of};
 ghost use Rattle.host.specs.Refusals.{refusal};
 
@@ -28,6 +28,7 @@ pub(crate) fn lay(room: usize, widths: &[usize], spans: &mut [Option<Span>])
     ensures spans { (k : ℕ) → k < length spans.old → span_at spans.new k ≡ span_at (laid room 0 widths.now) k }
 {
     let mut at = 0;
+    // No `zip` of the two: spans past the last width get none.
     for (i, span) in spans.iter_mut().enumerate() {
         let width = widths.get(i).copied().unwrap_or(0);
         *span = place(room, at, width);

@@ -1,5 +1,5 @@
 // A host that shows one variable of another host as variables.
-ghost use Rattle.std.specs.Prelude.{◌≡◌, ℕ, ◌+◌, take, is_ok, true, MatchResult, Some};
+ghost use Rattle.std.specs.Prelude.{◌≡◌, ℕ, take, is_ok, true, MatchResult, Some};
 ghost use Rattle.host.specs.Hosts.{place_in};
 ghost use Rattle.host.specs.Parts.{Same, Written, inside, part_refusal, size};
 ghost use Rattle.host.specs.Refusals.{refusal};

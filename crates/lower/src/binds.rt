@@ -1,7 +1,6 @@
 // Bindings as keys.
-ghost use Rattle.std.specs.Prelude.{◌≡◌, ℕ, ◌+◌, ◌<◌, ◌≤◌, List, ◌++◌, length, refl};
-ghost use Rattle.lower.specs.Keys.{Binding, binding_of, binding_reach, by_binding, text_in, variable};
-ghost use Rattle.pool.specs.Words.{by_word};
+ghost use Rattle.std.specs.Prelude.{refl};
+ghost use Rattle.lower.specs.Keys.{Binding, binding_of, binding_reach, by_binding, variable};
 ghost use Rattle.std.proofs.Common.{ap};
 ghost use Rattle.lower.specs.Spelled.{binding_orders};
 ghost use Rattle.pool.specs.Stretches.{stretch_stays};
@@ -12,6 +11,7 @@ use pool::{Key, PBind};
 use std::cmp::Ordering;
 
 /// Literals come first, by width and then value; variables by their text.
+// Not derived, here and for values: texts are compared by their bytes, which stand in the parts, and not by their place.
 impl Key for Bind {
     type Part = u8;
 

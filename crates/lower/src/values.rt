@@ -1,6 +1,6 @@
 // Values as keys.
-ghost use Rattle.std.specs.Prelude.{◌≡◌, ℕ, ◌+◌, ◌<◌, ◌≤◌, List, [], ◌∷◌, ◌++◌, length, refl};
-ghost use Rattle.lower.specs.Keys.{Worth, by_signed, by_worth, spell_signed, spell_start, start_of, start_reach, worth_of, worth_reach, named, plus};
+ghost use Rattle.std.specs.Prelude.{◌≡◌, ℕ, ◌+◌, ◌<◌, ◌≤◌, List, ◌++◌, length, refl};
+ghost use Rattle.lower.specs.Keys.{Worth, by_signed, by_worth, spell_start, start_of, start_reach, worth_of, worth_reach, named, plus};
 ghost use Rattle.pool.specs.Words.{by_word};
 ghost use Rattle.std.proofs.Common.{ap};
 ghost use Rattle.lower.specs.Spelled.{worth_orders};

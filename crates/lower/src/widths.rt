@@ -1,5 +1,4 @@
 // Widths as keys.
-ghost use Rattle.std.specs.Prelude.{ℕ, ◌+◌, ◌≤◌, List};
 ghost use Rattle.lower.specs.Keys.{Extent, by_extent, extent_of};
 ghost use Rattle.lower.specs.Spelled.{extent_orders};
 ghost use Rattle.std.proofs.Common.{rules};
@@ -9,6 +8,7 @@ use pool::{Key, Number, PWidth};
 use std::cmp::Ordering;
 
 /// Ends alone come first, by end; the others by start and end.
+// Not derived: the number of a pool has no order of its own, since keys are ordered, and not numbers.
 impl Key for Width {
     type Part = ();
 

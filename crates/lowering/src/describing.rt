@@ -8,7 +8,7 @@ use crate::open::Open;
 use components::Component;
 use texts::Refusal;
 
-// The clauses are those of the layout's own calls.
+// The clauses are those of the layout's own calls, one for each part of it, so that a caller can cite it; `rest` is all else.
 impl Open<'_, '_> {
     /// Adds a text of 1 to 60 printable bytes to one of 256 lists.
     pub fn text(&mut self, list: usize, bytes: &[u8]) -> Result<(), Refusal>

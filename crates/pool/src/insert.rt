@@ -20,6 +20,7 @@ impl<'a, K: Key, M: Copy> Pool<'a, K, M> {
         ensures used { self.new.used ≡ self.old.used }
         ensures lent { self.new.entries.ghost_name ≡ self.old.entries.ghost_name }
     {
+        // Only the number in a slot moves and not the entry that it lies in, so `copy_within` does not fit.
         for at in (slot..self.used).rev() {
             self.entries[at + 1].place = self.entries[at].place;
         }

@@ -2,6 +2,7 @@
 ghost use Rattle.std.specs.Prelude.{◌<◌, ◌≤◌, length};
 
 /// A lent slice of parts, of which the first `used` are in use. Parts in use are never changed.
+// A slice and a count, and no `Vec`: the memory is lent, and no call may fail for want of it.
 #[derive(Drop)]
 pub struct Parts<'a, P> {
     pub(crate) parts: &'a mut [P],

@@ -5,6 +5,7 @@ ghost use Rattle.pool.specs.Stored.{parts_of, stored};
 use crate::parts::Parts;
 
 impl<'a, P: Copy> Parts<'a, P> {
+    // The slice is the caller's; from here on the type says that it is small.
     /// A store of parts over the slice, with none in use.
     pub fn new(parts: &'a mut [P]) -> Parts<'a, P>
         requires small { length parts.old < 65536 }
