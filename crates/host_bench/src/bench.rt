@@ -1,7 +1,8 @@
 // The bench, and what it is asked.
-ghost use Rattle.host_bench.specs.declared.answers.Answer.TheVariants.{OutOfTurn};
+ghost use Rattle.host_bench.specs.declared.answers.Answer.TheVariants.{Done, OutOfTurn};
 ghost use Rattle.host_bench.specs.declared.requests.Question.{Question as AQuestion};
-ghost use Rattle.host_bench.specs.declared.requests.Request.TheVariants.{Ask};
+ghost use Rattle.host_bench.specs.declared.requests.Recipe.{Recipe as ARecipe};
+ghost use Rattle.host_bench.specs.declared.requests.Request.TheVariants.{Ask, Host};
 ghost use Rattle.std.specs.Prelude.{◌≡◌, None, Ok};
 
 use crate::answers::Answer;
@@ -23,8 +24,9 @@ impl Bench {
         Bench { heap, stands: None }
     }
 
-    /// Serves a request.
+    /// Serves a request: a host that is handed in stands from then on, and what is asked goes to the one that stands.
     pub fn serve(&mut self, request: Request) -> Result<Answer<'_>, AllocError>
+        ensures done { (r : ARecipe) → request ≡ Host r → result ≡ Ok Done }
         ensures out_of_turn { (q : AQuestion) → self.old.stands ≡ None → request ≡ Ask q → result ≡ Ok OutOfTurn }
     {
         match request {

@@ -1,6 +1,7 @@
 -- Quoted strings.
 use Rattle.std.specs.Prelude.{ℕ, ◌+◌, ◌*◌, ◌%◌, cond, ◌||◌, List, [], ◌∷◌, ◌++◌, Some, None, Option, ◌==◌, nat_lt}
 use Rattle.lines.specs.Numbers.{digit_worth}
+use Rattle.lines.specs.Words.{after_blanks, front}
 use Rattle.lines.specs.declared.quotes.Part.{Part}
 use Rattle.lines.specs.declared.quotes.Part.TheVariants.{Plain, Escape, High, Low}
 use Rattle.lines.specs.declared.quotes.Step.{Step}
@@ -31,3 +32,21 @@ abbrev pub quoted_from : Part → List ℕ → List ℕ → Option (List ℕ × 
 quoted_from part text [] = None
 quoted_from part text (c ∷ cs) =
     by_step (step_of part c) (Some (text, cs)) (λ next. quoted_from next text cs) (λ byte. quoted_from Plain (text ++ (byte ∷ [])) cs)
+
+-- the second, where the first is empty
+abbrev pub bare : List ℕ → Option (List ℕ × List ℕ) → Option (List ℕ × List ℕ)
+bare [] found = found
+bare (c ∷ cs) found = None
+
+-- a quoted string is a word of its own: behind its closing quote the line ends, or a blank stands
+abbrev pub alone : Option (List ℕ × List ℕ) → Option (List ℕ × List ℕ)
+alone None = None
+alone (Some (text, behind)) = bare (front behind) (Some (text, behind))
+
+-- the quoted string that comes next in a line, behind its opening quote (34), and what stands behind it
+abbrev pub opened : List ℕ → Option (List ℕ × List ℕ)
+opened [] = None
+opened (c ∷ cs) = cond (c == 34) (alone (quoted_from Plain [] cs)) None
+
+abbrev pub quoted_word : List ℕ → Option (List ℕ × List ℕ)
+quoted_word line = opened (after_blanks line)

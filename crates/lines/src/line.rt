@@ -1,7 +1,11 @@
 // A line as words, which blanks part.
-ghost use Rattle.std.specs.Prelude.{◌≡◌, ◌≤◌, length, not, is_ok, IfOk, None};
+ghost use Rattle.std.specs.Prelude.{◌≡◌, ◌≤◌, length, not, is_ok, IfErr, IfOk, Some, None, MatchResult};
 ghost use Rattle.std.specs.List.{position_or_len};
 ghost use Rattle.std.specs.Option.{option_map, is_none};
+ghost use Rattle.lines.specs.Numbers.{hex_word, numeral};
+ghost use Rattle.lines.specs.Quotes.{quoted_word};
+ghost use Rattle.lines.specs.Reading.{read_by};
+ghost use Rattle.lines.specs.declared.faults.Misread.TheVariants.{Unreadable};
 ghost use Rattle.lines.specs.Words.{after_blanks, after_word, blank, first_word, front, past};
 
 use crate::faults::Misread;
@@ -78,6 +82,7 @@ impl<'a> Line<'a> {
     /// Takes the next word, which has to be there.
     pub fn word(&mut self) -> Result<&'a [u8], Misread>
         ensures rest { self.new.rest.now ≡ after_word self.old.rest.now }
+        ensures word { MatchResult result (λ w. first_word self.old.rest.now ≡ Some w.now) (λ e. (e ≡ Unreadable) × (first_word self.old.rest.now ≡ None)) }
     {
         self.next_word().ok_or(Misread::Unreadable)
     }
@@ -85,6 +90,7 @@ impl<'a> Line<'a> {
     /// Takes the next word, a decimal.
     pub fn decimal(&mut self) -> Result<u64, Misread>
         ensures rest { self.new.rest.now ≡ after_word self.old.rest.now }
+        ensures value { result ≡ read_by (numeral 10) (first_word self.old.rest.now) }
     {
         numbers::decimal(self.word()?).ok_or(Misread::Unreadable)
     }
@@ -92,6 +98,7 @@ impl<'a> Line<'a> {
     /// Takes the next word, a decimal that counts something or names it.
     pub fn number(&mut self) -> Result<usize, Misread>
         ensures rest { self.new.rest.now ≡ after_word self.old.rest.now }
+        ensures value { result ≡ read_by (numeral 10) (first_word self.old.rest.now) }
     {
         Ok(self.decimal()? as usize)
     }
@@ -99,6 +106,7 @@ impl<'a> Line<'a> {
     /// Takes the next word, hexadecimal.
     pub fn hex_word(&mut self) -> Result<u64, Misread>
         ensures rest { self.new.rest.now ≡ after_word self.old.rest.now }
+        ensures value { result ≡ read_by hex_word (first_word self.old.rest.now) }
     {
         numbers::hex_word(self.word()?).ok_or(Misread::Unreadable)
     }
@@ -118,7 +126,10 @@ impl<'a> Line<'a> {
     }
 
     /// Takes the next word, a quoted string. Behind its closing quote the line ends, or a blank stands.
-    pub fn quoted(&mut self) -> Result<Vec<u8>, Misread> {
+    pub fn quoted(&mut self) -> Result<Vec<u8>, Misread>
+        ensures text { MatchResult result (λ t. quoted_word self.old.rest.now ≡ Some (t.items, self.new.rest.now)) (λ e. (e ≡ Unreadable → quoted_word self.old.rest.now ≡ None)) }
+        ensures refused { IfErr result (λ _. self.new.rest.now ≡ self.old.rest.now) }
+    {
         let [b'"', inside @ ..] = unindented(self.rest) else {
             return Err(Misread::Unreadable);
         };

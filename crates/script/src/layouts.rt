@@ -1,4 +1,6 @@
 // Commands that build a layout.
+ghost use Rattle.std.specs.Prelude.{◌≡◌};
+
 use components::{Component, ComponentType, Usb, Usbr};
 use layout::{Claims, ConcatClaim};
 use lines::{Line, Misread};
@@ -16,7 +18,11 @@ pub struct Sealing {
 }
 
 impl Sealing {
-    pub fn claims(&self) -> Claims<'_> {
+    /// The claims, as a layout is given them.
+    pub fn claims(&self) -> Claims<'_>
+        ensures whole { (result.returning ≡ self.now.returning) × (result.initial ≡ self.now.initial) × (result.nonzero ≡ self.now.nonzero) × (result.common ≡ self.now.common) × (result.alignment ≡ self.now.alignment) }
+        ensures concatenations { result.concatenations.now ≡ self.now.concatenations.items }
+    {
         Claims {
             returning: self.returning,
             initial: self.initial,
@@ -46,14 +52,14 @@ pub enum Build {
 }
 
 /// What stands behind `text`.
-pub fn read_text(line: &mut Line<'_>) -> Result<Build, Misread> {
+pub(crate) fn read_text(line: &mut Line<'_>) -> Result<Build, Misread> {
     let list = line.number()?;
     let bytes = line.quoted()?;
     Ok(Build::Text { list, bytes })
 }
 
 /// What stands behind `group`.
-pub fn read_group(line: &mut Line<'_>) -> Result<Build, Misread> {
+pub(crate) fn read_group(line: &mut Line<'_>) -> Result<Build, Misread> {
     let list = line.number()?;
     let delimiter = line.number()?;
     let child = line.number()?;
@@ -112,7 +118,7 @@ fn read_type(line: &mut Line<'_>) -> Result<ComponentType<usize>, Misread> {
 }
 
 /// What stands behind `component`.
-pub fn read_component(line: &mut Line<'_>) -> Result<Build, Misread> {
+pub(crate) fn read_component(line: &mut Line<'_>) -> Result<Build, Misread> {
     let c_type = read_type(line)?;
     let start = optional(line.word()?, bound)?;
     let end = optional(line.word()?, bound)?;
@@ -155,7 +161,7 @@ fn read_claim(word: &[u8]) -> Result<ConcatClaim, Misread> {
 }
 
 /// What stands behind `seal`.
-pub fn read_seal(line: &mut Line<'_>) -> Result<Build, Misread> {
+pub(crate) fn read_seal(line: &mut Line<'_>) -> Result<Build, Misread> {
     let returning = read_flag(line)?;
     let initial = read_initial(line)?;
     let nonzero = read_flag(line)?;

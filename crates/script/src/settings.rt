@@ -139,14 +139,14 @@ impl TryFrom<&[u8]> for Kind {
 }
 
 /// What stands behind `name`.
-pub fn read_name(line: &mut Line<'_>) -> Result<Setting, Misread> {
+pub(crate) fn read_name(line: &mut Line<'_>) -> Result<Setting, Misread> {
     let of = NameOf::try_from(line.word()?)?;
     let text = line.quoted()?;
     Ok(Setting::Name { of, text })
 }
 
 /// What stands behind `around`.
-pub fn read_around(line: &mut Line<'_>) -> Result<Setting, Misread> {
+pub(crate) fn read_around(line: &mut Line<'_>) -> Result<Setting, Misread> {
     let of = Surrounded::try_from(line.word()?)?;
     let before = line.quoted()?;
     let after = line.quoted()?;
@@ -154,7 +154,7 @@ pub fn read_around(line: &mut Line<'_>) -> Result<Setting, Misread> {
 }
 
 /// What stands behind `entries`.
-pub fn read_entries(line: &mut Line<'_>) -> Result<Setting, Misread> {
+pub(crate) fn read_entries(line: &mut Line<'_>) -> Result<Setting, Misread> {
     let kind = Kind::try_from(line.word()?)?;
     let count = line.decimal()?;
     Ok(Setting::Entries { kind, count })
