@@ -1,26 +1,32 @@
 // A row of bits in lent packed bytes, from the highest bit of byte 0 on.
-ghost use Rattle.std.specs.Prelude.{◌≡◌, ℕ, ◌+◌, ◌-◌, ◌*◌, ◌<◌, ◌≤◌, if◌then◌else◌, min, true, length, slice_index};
+ghost use Rattle.std.specs.Prelude.{◌≡◌, ℕ, ◌+◌, ◌-◌, ◌*◌, ◌/◌, ◌%◌, ◌^◌, ◌<◌, ◌≤◌, if◌then◌else◌, min, nat_lt, true, length, slice_index};
 ghost use Rattle.bits.specs.Bit.{bit, within};
 ghost use Rattle.host.specs.Parts.{Changed};
 ghost use Rattle.host.specs.Rows.{byte_bit, byte_cell, byte_inner, bytes_apart, bytes_room};
 
 use crate::stores::{Exact, Storage};
 
-// The eight bytes from `from` on, with zeros past the last one. Here and below `from` is a plain index: a type for one that lies inside would
-// be filled and taken apart at each call.
-fn eight(bytes: &[u8], from: usize) -> [u8; 8]
-    requires from { from < length bytes.now }
-    ensures bytes { (k : ℕ) → k < 8 → slice_index result k ≡ slice_index bytes.now (from + k) }
+// Eight bytes as a number, the first one lowest, with zeros past the last one. They are taken one by one, since to copy a few bytes
+// costs a call.
+fn few(bytes: &[u8]) -> u64
+    ensures bits { (i : ℕ) → i < 64 → bit result i ≡ bit (slice_index bytes.now (i / 8)) (i % 8) }
 {
-    let rest = &bytes[from..];
-    match rest.first_chunk() {
-        Some(whole) => *whole,
-        None => {
-            let mut part = [0; 8];
-            part[..rest.len()].copy_from_slice(rest);
-            part
+    let mut raw = 0;
+    for j in 0..8 {
+        if j < bytes.len() {
+            raw |= (bytes[j] as u64) << (8 * j);
         }
     }
+    raw
+}
+
+// The eight bytes from `from` on. Here and below `from` is a plain index: a type for one that lies inside would be filled and taken apart at
+// each call.
+fn eight(bytes: &[u8], from: usize) -> [u8; 8]
+    requires there { from + 8 ≤ length bytes.now }
+    ensures bytes { (k : ℕ) → k < 8 → slice_index result k ≡ slice_index bytes.now (from + k) }
+{
+    bytes[from..].first_chunk().copied().unwrap_or([0; 8])
 }
 
 // The 64 bits of the eight bytes from `from` on, the first one lowest; zeros past the last byte.
@@ -28,16 +34,42 @@ fn load(bytes: &[u8], from: usize) -> u64
     requires from { from < length bytes.now }
     ensures bits { (i : ℕ) → i < 64 → bit result i ≡ byte_bit bytes.now (8 * from + i) }
 {
-    bits::mirrored(u64::from_le_bytes(eight(bytes, from)))
+    if bytes.len() - from >= 8 {
+        bits::mirrored(u64::from_le_bytes(eight(bytes, from)))
+    } else {
+        bits::mirrored(few(&bytes[from..]))
+    }
 }
 
-// Puts eight bytes from `from` on; those past the last byte are left out.
-fn put_eight(bytes: &mut [u8], from: usize, eight: [u8; 8])
-    requires from { from < length bytes.old }
+// Puts as many of the eight bytes of a number as there are places, the lowest first, one by one.
+fn put_few(bytes: &mut [u8], raw: u64)
+    ensures bytes { (m : ℕ) → m < length bytes.old → slice_index bytes.new m ≡ (if nat_lt m 8 then raw / 2 ^ (8 * m) % 256 else slice_index bytes.old m) }
+{
+    for j in 0..8 {
+        if j < bytes.len() {
+            bytes[j] = ((raw >> (8 * j)) & 0xff) as u8;
+        }
+    }
+}
+
+// Puts eight bytes from `from` on.
+fn put_whole(bytes: &mut [u8], from: usize, eight: [u8; 8])
+    requires there { from + 8 ≤ length bytes.old }
     ensures bytes { (m : ℕ) → m < length bytes.old → slice_index bytes.new m ≡ (if within from 8 m then slice_index eight (m - from) else slice_index bytes.old m) }
 {
-    let end = bytes.len().min(from.saturating_add(8));
-    bytes[from..end].copy_from_slice(&eight[..end - from]);
+    bytes[from..from + 8].copy_from_slice(&eight);
+}
+
+// Puts the eight bytes of a number from `from` on, the lowest first; those past the last byte are left out.
+fn put_eight(bytes: &mut [u8], from: usize, raw: u64)
+    requires from { from < length bytes.old }
+    ensures bytes { (m : ℕ) → m < length bytes.old → slice_index bytes.new m ≡ (if within from 8 m then raw / 2 ^ (8 * (m - from)) % 256 else slice_index bytes.old m) }
+{
+    if bytes.len() - from >= 8 {
+        put_whole(bytes, from, raw.to_le_bytes());
+    } else {
+        put_few(&mut bytes[from..], raw);
+    }
 }
 
 // Puts 64 bits into the eight bytes from `from` on; those past the last byte are left out.
@@ -45,7 +77,7 @@ fn store(bytes: &mut [u8], from: usize, value: u64)
     requires from { from < length bytes.old }
     ensures stored { Changed true (8 * from) (min 64 (8 * (length bytes.old - from))) value (byte_bit bytes.old) (byte_bit bytes.new) }
 {
-    put_eight(bytes, from, bits::mirrored(value).to_le_bytes());
+    put_eight(bytes, from, bits::mirrored(value));
 }
 
 // Sets the `count` bits from `at` on to the low ones of `value`, and no other.

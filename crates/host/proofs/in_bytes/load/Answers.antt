@@ -4,8 +4,8 @@ use Rattle.bits.specs.Bit.{bit, mirror}
 use Rattle.host.proofs.RowLaws.{byte_at, le_bit}
 use Rattle.host.proofs.in_bytes.load.Goals as goal
 
-pub returns : goal.returns
-returns c =
+pub returns-then-bytes-from-ge8 : goal.returns-then-bytes-from-ge8
+returns-then-bytes-from-ge8 c =
     let bs : List ℕ = c.args.bytes.now in
     let from : ℕ = c.args.from in
     let eight : List ℕ = c.eight.result in

@@ -4,7 +4,7 @@ use Rattle.std.proofs.lemmas.Bool.{cases_lt, cond-false, cond-true}
 use Rattle.bits.specs.Bit.{bit, within}
 use Rattle.bits.proofs.BitLaws.{bit_mod, bit_shr}
 use Rattle.host.specs.Rows.{byte_bit}
-use Rattle.host.proofs.RowLaws.{by_place, le_byte, within_above, within_below, within_true}
+use Rattle.host.proofs.RowLaws.{by_place, within_above, within_below, within_true}
 use Rattle.host.proofs.in_bytes.store.Goals as goal
 
 pub returns : goal.returns
@@ -16,13 +16,7 @@ returns c =
     let value : ℕ = c.args.value in
     let n : ℕ = min 64 (8 * (length bs - from)) in
     let held : (m : ℕ) → m < length bs → get_or now m 0 ≡ cond (within from 8 m) (raw / 2 ^ (8 * (m - from)) % 256) (get_or bs m 0) =
-    λ m h. c.put_eight.ensures.bytes m h ∙ by_place (λ q. cond (within from 8 m) (get_or c.to_le_bytes.result (m - from) 0) (get_or bs m 0) ≡ cond (within from 8 m) (raw / 2 ^ (8 * (m - from)) % 256) (get_or bs m 0)) from 8 m
-    (λ a. cond-false (within from 8 m) (get_or c.to_le_bytes.result (m - from) 0) (get_or bs m 0) (within_below from 8 m a)
-    ∙ sym (cond-false (within from 8 m) (raw / 2 ^ (8 * (m - from)) % 256) (get_or bs m 0) (within_below from 8 m a)))
-    (λ a b. ap (λ (x : ℕ). cond (within from 8 m) x (get_or bs m 0))
-    (ap (λ (xs : List ℕ). get_or xs (m - from) 0) c.to_le_bytes.ensures ∙ le_byte raw (m - from) (omega arith)))
-    (λ a. cond-false (within from 8 m) (get_or c.to_le_bytes.result (m - from) 0) (get_or bs m 0) (within_above from 8 m a)
-    ∙ sym (cond-false (within from 8 m) (raw / 2 ^ (8 * (m - from)) % 256) (get_or bs m 0) (within_above from 8 m a))) in
+    c.put_eight.ensures.bytes in
     let same : (p : ℕ) → within from 8 (p / 8) ≡ false → p / 8 < length bs → byte_bit now p ≡ byte_bit bs p =
     λ p t h. ap (λ (x : ℕ). bit x (7 - p % 8))
     (held (p / 8) h ∙ cond-false (within from 8 (p / 8)) (raw / 2 ^ (8 * (p / 8 - from)) % 256) (get_or bs (p / 8) 0) t) in
