@@ -66,19 +66,25 @@ pub enum Request {
     Ask(Question),
 }
 
-fn read_recipe(line: &mut Line<'_>) -> Result<Recipe, Misread> {
-    let over = line.word()?;
+fn read_lists(line: &mut Line<'_>) -> Result<Lists, Misread> {
     let widths = line.items()?;
     let numbers = line.items()?;
-    let stored = match over {
-        b"words" => Stored::Words(line.items()?),
-        b"bytes" => Stored::Bytes(line.bytes()?),
-        _ => return Err(Misread::Unreadable),
-    };
-    Ok(Recipe {
-        lists: Lists { widths, numbers },
-        stored,
-    })
+    Ok(Lists { widths, numbers })
+}
+
+// The kind stands before the lists: none is read for a kind that is not known.
+fn read_recipe(line: &mut Line<'_>) -> Result<Recipe, Misread> {
+    match line.word()? {
+        b"words" => Ok(Recipe {
+            lists: read_lists(line)?,
+            stored: Stored::Words(line.items()?),
+        }),
+        b"bytes" => Ok(Recipe {
+            lists: read_lists(line)?,
+            stored: Stored::Bytes(line.bytes()?),
+        }),
+        _ => Err(Misread::Unreadable),
+    }
 }
 
 fn read_pane(line: &mut Line<'_>) -> Result<Pane, Misread> {
