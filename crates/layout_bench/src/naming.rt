@@ -1,5 +1,5 @@
 // The names that a start hands in.
-use crate::kept::Kept;
+use crate::kept::{Kept, keep};
 use layout::{AWINT_FN_NAMES, AWINT_NAMES, FnNames, Names};
 use script::NameOf;
 
@@ -45,9 +45,9 @@ pub struct AllNames {
 impl AllNames {
     /// awint's own.
     pub fn new() -> AllNames {
-        let mut texts = [Kept::front_of(b""); 25];
+        let mut texts = [keep(b""); 25];
         for (text, own) in texts.iter_mut().zip(awints().iter()) {
-            *text = Kept::front_of(own);
+            *text = keep(own);
         }
         AllNames { texts }
     }

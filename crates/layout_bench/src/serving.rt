@@ -6,12 +6,12 @@ use lines::Misread;
 use script::{Build, Command};
 use std::alloc::Global;
 use std::io;
-use std::io::{BufReader, Split, Stdin};
+use std::io::{BufRead, BufReader, Stdin};
 
-/// What lasts whatever layout stands: the input, line by line, and what answers lines that ask of none.
+/// What lasts whatever layout stands: the input, and what answers lines that ask of none.
 #[derive(Drop)]
 pub struct Desk {
-    pub input: Split<BufReader<Stdin>>,
+    input: BufReader<Stdin>,
     pub table: Table,
 }
 
@@ -38,6 +38,45 @@ pub fn say(rt: &HostRuntime, answer: Answer<'_>) -> io::Result<()> {
 /// Prints that a line asks for what is not there.
 pub fn say_out_of_turn(rt: &HostRuntime) -> io::Result<()> {
     say(rt, Answer::Bench(host_bench::Answer::OutOfTurn))
+}
+
+impl Desk {
+    pub fn new(rt: &HostRuntime) -> io::Result<Desk> {
+        let heap = rt.alloc();
+        Ok(Desk {
+            input: BufReader::new(heap, rt.stdin())?,
+            table: Table::new(heap),
+        })
+    }
+
+    // Reads a line without its line feed; says whether there was one.
+    fn read(&mut self, line: &mut Vec<u8>) -> io::Result<bool> {
+        line.clear();
+        if self.input.read_until(b'\n', line)? == 0 {
+            return Ok(false);
+        }
+        if line.last() == Some(&b'\n') {
+            let _ = line.pop();
+        }
+        Ok(true)
+    }
+
+    /// Serves lines up to the first that asks something of a layout, if there is one. They are read into the same memory: with memory
+    /// for each, a line that nothing is printed for took twice the time.
+    pub fn next(&mut self, rt: &HostRuntime) -> io::Result<Option<Asked>> {
+        let mut line = Vec::new(rt.alloc());
+        // The language wants a count where a loop ends with its input: each turn reads a line.
+        for _ in 0..u64::MAX {
+            if !self.read(&mut line)? {
+                break;
+            }
+            let asked = self.table.serve(rt, &line)?;
+            if asked.is_some() {
+                return Ok(asked);
+            }
+        }
+        Ok(None)
+    }
 }
 
 impl Table {

@@ -1,5 +1,5 @@
 // What the starts to come hand in and lend.
-use crate::kept::Kept;
+use crate::kept::{Kept, keep};
 use crate::naming::AllNames;
 use layout::{Around, CodeGen};
 use lowering::{Counts, Handed};
@@ -15,8 +15,8 @@ struct Pair {
 impl Pair {
     fn new(before: &[u8], after: &[u8]) -> Pair {
         Pair {
-            before: Kept::front_of(before),
-            after: Kept::front_of(after),
+            before: keep(before),
+            after: keep(after),
         }
     }
 
@@ -96,7 +96,7 @@ impl Settings {
 
     pub fn set(&mut self, setting: Setting) {
         match setting {
-            Setting::Name { of, text } => self.texts.names.set(of, Kept::front_of(&text)),
+            Setting::Name { of, text } => self.texts.names.set(of, keep(&text)),
             Setting::Around { of, before, after } => {
                 self.texts.pairs[of as usize] = Pair::new(&before, &after);
             }

@@ -1,13 +1,12 @@
 // The stages of a layout, one loop for each.
 use crate::answers::Answer;
-use crate::serving::{Asked, Desk, Table, say, say_out_of_turn};
+use crate::serving::{Asked, Desk, say, say_out_of_turn};
 use crate::settings::Settings;
 use layout::Room;
 use lowering::{Lending, Open, Sealed};
 use script::{Build, Sealing};
 use std::alloc::{AllocError, Global};
 use std::io;
-use std::io::{BufRead, BufReader};
 use texts::Refusal;
 
 // A `start` that was read. Where a layout stands, it is one that is accepted.
@@ -28,13 +27,15 @@ fn would_start(heap: Global, settings: &Settings) -> Result<Result<(), Refusal>,
     Ok(lowering::check_start(&lent.memory(), &handed))
 }
 
+// The loops below have a count, since the language wants one where a loop ends with the input: each turn but the last reads a line.
+
 // Serves lines while there is no layout, up to a `start`.
 fn serve_none(rt: &HostRuntime, desk: &mut Desk) -> io::Result<Option<Start>> {
-    for line in &mut desk.input {
-        match desk.table.serve(rt, &line?)? {
+    for _ in 0..u64::MAX {
+        match desk.next(rt)? {
+            None => break,
             Some(Asked::Start) => return Ok(Some(Start)),
             Some(Asked::Build(_)) => say_out_of_turn(rt)?,
-            None => {}
         }
     }
     Ok(None)
@@ -46,14 +47,14 @@ fn serve_sealed(
     desk: &mut Desk,
     _sealed: &Sealed<'_, '_, '_>,
 ) -> io::Result<Option<Start>> {
-    for line in &mut desk.input {
-        match desk.table.serve(rt, &line?)? {
+    for _ in 0..u64::MAX {
+        match desk.next(rt)? {
+            None => break,
             Some(Asked::Start) => match would_start(rt.alloc(), &desk.table.settings)? {
                 Ok(()) => return Ok(Some(Start)),
                 refused => say(rt, Answer::Layout(refused))?,
             },
             Some(Asked::Build(_)) => say_out_of_turn(rt)?,
-            None => {}
         }
     }
     Ok(None)
@@ -65,9 +66,9 @@ fn serve_open(
     desk: &mut Desk,
     open: &mut Open<'_, '_>,
 ) -> io::Result<Option<Closed>> {
-    for line in &mut desk.input {
-        let result = match desk.table.serve(rt, &line?)? {
-            None => continue,
+    for _ in 0..u64::MAX {
+        let result = match desk.next(rt)? {
+            None => break,
             Some(Asked::Start) => match would_start(rt.alloc(), &desk.table.settings)? {
                 Ok(()) => return Ok(Some(Closed::Start(Start))),
                 refused => refused,
@@ -95,7 +96,6 @@ fn serve_layout(
     desk: &mut Desk,
     mut open: Open<'_, '_>,
 ) -> io::Result<Option<Start>> {
-    // The language wants a count where a loop ends with its input: each turn reads a line.
     for _ in 0..u64::MAX {
         match serve_open(rt, desk, &mut open)? {
             None => return Ok(None),
@@ -137,13 +137,8 @@ fn serve_start(rt: &HostRuntime, desk: &mut Desk) -> io::Result<Option<Start>> {
 }
 
 pub fn run(rt: &HostRuntime) -> io::Result<()> {
-    let heap = rt.alloc();
-    let mut desk = Desk {
-        input: BufReader::new(heap, rt.stdin())?.split(heap, b'\n'),
-        table: Table::new(heap),
-    };
+    let mut desk = Desk::new(rt)?;
     let mut start = serve_none(rt, &mut desk)?;
-    // The language wants a count where a loop ends with its input: each turn reads a line, or is the last.
     for _ in 0..u64::MAX {
         let Some(Start) = start else {
             break;

@@ -1,4 +1,5 @@
 // Commands that build a layout.
+ghost use Rattle.lines.specs.Numbers.{numeral};
 ghost use Rattle.std.specs.Prelude.{◌≡◌};
 
 use components::{Component, ComponentType, Usb, Usbr};
@@ -127,7 +128,9 @@ pub(crate) fn read_component(line: &mut Line<'_>) -> Result<Build, Misread> {
 }
 
 // The prover does not cover a function of another crate that is handed on.
-fn decimal(word: &[u8]) -> Option<u64> {
+fn decimal(word: &[u8]) -> Option<u64>
+    ensures value { result ≡ numeral 10 word.now }
+{
     lines::decimal(word)
 }
 
