@@ -205,7 +205,7 @@ bound_text_mapped f None = refl
 bound_text_mapped f (Some b) = refl
 
 -- what three texts in turn bring, counted one by one
-counted_by : (names : List (List ℕ)) (a b c : Option (List ℕ)) (n m : ℕ)
+pub counted_by : (names : List (List ℕ)) (a b c : Option (List ℕ)) (n m : ℕ)
     → n ≡ length names + cond (new_text names a) 1 0 + cond (new_text names b && not (same_texts a b)) 1 0
     + cond ((new_text names c && not (same_texts a c)) && not (same_texts b c)) 1 0
     → m ≡ total names + cond (new_text names a) (bytes_in a) 0 + cond (new_text names b && not (same_texts a b)) (bytes_in b) 0

@@ -25,23 +25,35 @@ module _ (starts : List ℕ) (total : ℕ) (b : Begun starts total) where
       (cases_lt k (length starts))
 
   -- how many components there are, if the last concatenation has room
-  pub room_left : {C : Type 0} (comps : List C) → length comps ≡ total → 0 < length starts → length (concat_at starts comps (length starts - 1)) < 32 → total + 1 ≤ 32 * length starts
+  pub room_left : {C : Type 0} (comps : List C) → length comps ≡ total → 0 < length starts → length (concat_at starts comps (length starts - 1)) < 32
+      → (total + 1 ≤ start_at starts total (length starts - 1) + 32) × (total + 1 ≤ 32 * length starts)
   room_left comps e h l =
       let k : ℕ = length starts - 1 in
       let last : start_at starts (length comps) (k + 1) ≡ length comps = start_past starts (length comps) (k + 1) (omega arith) in
       let long : length (concat_at starts comps k) ≡ start_at starts (length comps) (k + 1) - start_at starts (length comps) k =
       length-between comps (start_at starts (length comps) k) (start_at starts (length comps) (k + 1)) (omega (arith, last)) in
-      omega (arith, last, long, e, ap (λ (n : ℕ). start_at starts n k) e, b.short k)
+      let near : total + 1 ≤ start_at starts total k + 32 = omega (arith, last, long, e, ap (λ (n : ℕ). start_at starts n k) e) in (
+        near,
+        omega (arith, near, b.short k),
+      )
 
-  pub begun_more : total + 1 ≤ 32 * length starts → Begun starts (total + 1)
-  begun_more h = record {
+  -- where the last concatenation begins
+  begins_last : (k : ℕ) → k < length starts → length starts ≤ k + 1 → start_at starts total k ≡ start_at starts total (length starts - 1)
+  begins_last k l g = ap (start_at starts total) (omega arith)
+
+  pub begun_more : 0 < length starts → total + 1 ≤ start_at starts total (length starts - 1) + 32 → Begun starts (total + 1)
+  begun_more n h = record {
     few = b.few;
     inside = λ k. ⊎_elim (λ p. omega (arith, p.1, b.inside k)) (λ p. omega (arith, p.1)) (grown k);
     rising = λ k. ⊎_elim
         (λ p. ⊎_elim (λ q. omega (arith, p.1, q.1, b.rising k)) (λ q. omega (arith, p.1, q.1, b.inside k)) (grown (k + 1)))
         (λ p. ⊎_elim (λ q. absurd (omega (arith, p.0, q.0))) (λ q. omega (arith, p.1, q.1)) (grown (k + 1)))
         (grown k);
-    short = λ k. ⊎_elim (λ p. omega (arith, p.1, b.short k)) (λ p. omega (arith, p.0, p.1, h)) (grown k);
+    short = λ k. ⊎_elim (λ p. omega (arith, p.1, b.short k)) (λ p. omega (arith, p.0, p.1, n, h, b.short (length starts - 1))) (grown k);
+    each = λ k. ⊎_elim
+        (λ p. ⊎_elim (λ q. omega (arith, p.1, q.1, b.each k)) (λ q. omega (arith, p.1, q.1, h, begins_last k p.0 q.0)) (grown (k + 1)))
+        (λ p. ⊎_elim (λ q. absurd (omega (arith, p.0, q.0))) (λ q. omega (arith, p.1, q.1)) (grown (k + 1)))
+        (grown k);
   }
 
   pub begun_push : length starts < 16 → Begun (starts ++ total ∷ []) total
@@ -50,4 +62,5 @@ module _ (starts : List ℕ) (total : ℕ) (b : Begun starts total) where
     inside = λ k. omega (arith, start_push starts total k, b.inside k);
     rising = λ k. omega (arith, start_push starts total k, start_push starts total (k + 1), b.rising k);
     short = λ k. omega (arith, start_push starts total k, b.short k);
+    each = λ k. omega (arith, start_push starts total k, start_push starts total (k + 1), b.each k);
   }

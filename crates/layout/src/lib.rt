@@ -27,5 +27,5 @@ mod sealing;
 pub use ast::Layout;
 pub use claims::{Claims, ConcatClaim};
 pub use handed_names::{AWINT_FN_NAMES, AWINT_NAMES, Around, CodeGen, FnNames, Names};
-pub use laws::begun_in_order;
+pub use laws::{begun_in_order, items_in_order, names_in_order};
 pub use room::Room;

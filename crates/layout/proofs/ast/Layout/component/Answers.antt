@@ -13,17 +13,17 @@ use Rattle.layout.proofs.ast.Layout.component.Goals as goal
 
 pub push_reserved-requires : goal.push_reserved-requires
 push_reserved-requires c =
-    omega (arith, enough _ _ _ c.self.view_is c.self.inside.components.ok.0 c.self.invariant.2 (sym c.if-not-has_place.ensures.answer), c.self.invariant.2.few, c.self.invariant.0)
+    omega (arith, (enough _ _ _ c.self.view_is c.self.inside.components.ok.0 c.self.invariant.2 (sym c.if-not-has_place.ensures.answer)).2, c.self.invariant.2.few, c.self.invariant.0)
 
 pub invariant_of-self : goal.invariant_of-self
 invariant_of-self c =
     let starts : List ℕ = vec_items c.self.inside.starts in
     let total : ℕ = vec_len c.self.inside.components in
-    let room : total + 1 ≤ 32 * length starts = enough _ _ _ c.self.view_is c.self.inside.components.ok.0 c.self.invariant.2 (sym c.if-not-has_place.ensures.answer) in
+    let room = enough _ _ _ c.self.view_is c.self.inside.components.ok.0 c.self.invariant.2 (sym c.if-not-has_place.ensures.answer) in
     let more : total + 1 ≡ vec_len c.push_reserved.new.self = sym c.push_reserved.ensures.len in (
       omega (arith, c.push_reserved.ensures.capacity, c.self.invariant.0),
       c.self.invariant.1,
-      subst (Begun starts) more (begun_more starts total c.self.invariant.2 room),
+      subst (Begun starts) more (begun_more starts total c.self.invariant.2 room.0 room.1),
     )
 
 pub returns : goal.returns
